@@ -1,0 +1,58 @@
+-- The frame as three stores after the doubled data, and each case of what framing gives.
+-- Assumes nothing.
+use mathlib.Core.Path.{_≡_, refl, _∙_}
+use mathlib.Core.List.{List, [], _∷_, _++_}
+use Prim.Native.Nat.{ℕ, _+_, _≤_, _<_}
+use native.Mathlib.Nat.{zero-add}
+use native.Mathlib.Numerals.{add-one, add-two}
+use borrow.Author.Tests.{lt-ltb, le-ltb}
+use lib.Bits.{bitXor}
+use lib.ListN.{length, set, length-append}
+use lib.Seq.{sets}
+use Rattle.base.specs.Filling.{fitted, denied, written}
+use Rattle.base.proofs.Places.{sets-append, sets-placed}
+use Rattle.base.proofs.Filling.{fitted-short, fitted-room}
+use Rattle.link_frame.specs.ControlBytes.{ETX, DLE}
+use Rattle.link_frame.specs.Frame.{doubled, xorOver, checkByte, frameOf, framing, outcome}
+use Rattle.link_frame.specs.declared.FrameAnswer.the-variants.{Written}
+
+pub xor-append : (c : ℕ) (xs ys : List ℕ) → xorOver c (xs ++ ys) ≡ xorOver (xorOver c xs) ys
+unfolding xorOver
+xor-append c [] ys = refl
+xor-append c (x ∷ xs) ys = xor-append (bitXor c x) xs ys
+
+-- the check byte from the running check over the doubled data
+pub check-byte : (d : List ℕ) → checkByte d ≡ bitXor (bitXor (xorOver 0 (doubled d)) DLE) ETX
+unfolding checkByte xorOver
+check-byte d = xor-append 0 (doubled d) (DLE ∷ ETX ∷ [])
+
+pub length-frame : (d : List ℕ) → length (frameOf d) ≡ length (doubled d) + 3
+unfolding frameOf
+length-frame d = simp length-append
+
+-- what the stores of DLE, ETX and the check byte leave
+abbrev pub closed : ℕ → ℕ → List ℕ → List ℕ
+closed n c l = set (set (set l n DLE) (n + 1) ETX) (n + 2) (bitXor (bitXor c DLE) ETX)
+
+module _ (d out : List ℕ) where
+  pub frame-stores : closed (length (doubled d)) (xorOver 0 (doubled d)) (sets out 0 (doubled d)) ≡ sets out 0 (frameOf d)
+  unfolding frameOf
+  frame-stores = rw (sets-append out 0 (doubled d), check-byte d, zero-add, add-one, add-two)
+
+  pub frame-written : length (doubled d) + 3 ≤ length out →
+      outcome (Written (length (doubled d) + 3)) (closed (length (doubled d)) (xorOver 0 (doubled d)) (sets out 0 (doubled d)))
+      ≡ written (frameOf d) out
+  frame-written h = rw (frame-stores, ← length-frame d, sets-placed (frameOf d) out (rw length-frame h))
+
+  pub framing-long : 1024 < length d → framing d out ≡ denied 12 out
+  unfolding framing
+  framing-long h = simp (lt-ltb _ _ h)
+
+  module _ (fits : length d ≤ 1024) where
+    pub framing-short : length out < length (doubled d) + 3 → framing d out ≡ denied 11 out
+    unfolding framing
+    framing-short h = simp (le-ltb 1024 (length d) fits) (fitted-short (frameOf d) out (rw length-frame h))
+
+    pub framing-room : length (doubled d) + 3 ≤ length out → framing d out ≡ written (frameOf d) out
+    unfolding framing
+    framing-room h = simp (le-ltb 1024 (length d) fits) (fitted-room (frameOf d) out (rw length-frame h))

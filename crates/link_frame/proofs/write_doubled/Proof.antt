@@ -1,0 +1,117 @@
+use Prim.Native.Nat.{_≤_, _+_, _-_, _*_}
+use mathlib.Core.Path.{_≡_, refl, sym, _∙_, ap}
+use native.Mathlib.Omega.{arith}
+use lib.ListN.{length, drop, length-set}
+use lib.Seq.{sets}
+use Rattle.link_frame.specs.Frame.{doubled, xorOver}
+use Rattle.link_frame.proofs.Doubling.{Twice, Once, none-left, next-dle, next-other, length-one, length-two, xor-one, xor-two, sets-one, sets-two}
+use Rattle.link_frame.proofs.write_doubled.Statement.{statement}
+use Rattle.link_frame.proofs.write_doubled.Tie as tie
+
+abbrev Inv-loop : tie.InvT-loop
+Inv-loop src out₀ at₀ check₀ i₀ out at check i =
+    (i ≤ length src) × (length out ≡ length out₀)
+    × (at + length (doubled (drop i src)) ≡ length (doubled src))
+    × (xorOver check (doubled (drop i src)) ≡ xorOver 0 (doubled src))
+    × (sets out at (doubled (drop i src)) ≡ sets out₀ 0 (doubled src))
+
+abbrev μ-loop : tie.MeasureT-loop
+μ-loop src out₀ at₀ check₀ i₀ out at check i = length src - i
+
+-- what is left at a DLE and at another byte
+dle : (c : tie.Then1 Inv-loop μ-loop) → Twice (c .before .before .before .before .args .src .now) (c .before .before .before .loop .i)
+dle c =
+    let a = c .before .before .before in
+    next-dle (a .before .args .src .now) (a .loop .i) (c .before .before .loop-test .taken) (c .if1 .taken)
+
+other : (c : tie.Else1 Inv-loop μ-loop) → Once (c .before .before .before .before .args .src .now) (c .before .before .before .loop .i)
+other c =
+    let a = c .before .before .before in
+    next-other (a .before .args .src .now) (a .loop .i) (c .before .before .loop-test .taken) (c .if1 .left)
+
+loop-holds : tie.Need-loop-holds Inv-loop μ-loop
+loop-holds c = (omega arith, refl, omega arith, refl, refl)
+
+shared-slice-read-b : tie.Need-shared-slice-read-b Inv-loop μ-loop
+shared-slice-read-b c = omega arith
+
+add-i : tie.Need-add-i Inv-loop μ-loop
+add-i c = omega arith
+
+slice-write-out : tie.Need-slice-write-out Inv-loop μ-loop
+slice-write-out c = omega (arith, ap length (dle c))
+
+add-out : tie.Need-add-out Inv-loop μ-loop
+add-out c = omega (arith, ap length (dle c))
+
+slice-write-out-2 : tie.Need-slice-write-out-2 Inv-loop μ-loop
+slice-write-out-2 c = simp length-set (omega (arith, ap length (dle c)))
+
+add-at : tie.Need-add-at Inv-loop μ-loop
+add-at c = omega (arith, ap length (dle c))
+
+loop-less : tie.Need-loop-less Inv-loop μ-loop
+loop-less c = omega arith
+
+loop-again : tie.Need-loop-again Inv-loop μ-loop
+loop-again c =
+    let v = c .before .before .before .loop in (
+      omega arith,
+      simp length-set (v .inv .1),
+      length-two (v .at) (dle c) (v .inv .2),
+      xor-two (v .check) (dle c) (v .inv .3),
+      sets-two (v .out) (v .at) (dle c) (v .inv .4),
+    )
+
+slice-write-out-3 : tie.Need-slice-write-out-3 Inv-loop μ-loop
+slice-write-out-3 c = omega (arith, ap length (other c))
+
+add-at-2 : tie.Need-add-at-2 Inv-loop μ-loop
+add-at-2 c = omega (arith, ap length (other c))
+
+loop-less-2 : tie.Need-loop-less-2 Inv-loop μ-loop
+loop-less-2 c = omega arith
+
+loop-again-2 : tie.Need-loop-again-2 Inv-loop μ-loop
+loop-again-2 c =
+    let v = c .before .before .before .loop in (
+      omega arith,
+      simp length-set (v .inv .1),
+      length-one (v .at) (other c) (v .inv .2),
+      xor-one (v .check) (other c) (v .inv .3),
+      sets-one (v .out) (v .at) (other c) (v .inv .4),
+    )
+
+same-length : tie.Need-same-length Inv-loop μ-loop
+same-length c = c .before .loop .inv .1
+
+returns : tie.Need-returns Inv-loop μ-loop
+unfolding xorOver
+returns c =
+    let v = c .before .loop in
+    let e = none-left (c .before .before .args .src .now) (v .i) (c .loop-test .left) in (
+      omega (arith, ap length e),
+      (sym (ap (xorOver (v .check)) e) ∙ v .inv .3, sym (ap (sets (v .out) (v .at)) e) ∙ v .inv .4),
+    )
+
+pub write-doubled-spec : {M : Type 1} → statement M
+write-doubled-spec =
+    tie.close
+    (tie.spec
+    Inv-loop
+    μ-loop
+    loop-holds
+    shared-slice-read-b
+    add-i
+    slice-write-out
+    add-out
+    slice-write-out-2
+    add-at
+    loop-less
+    loop-again
+    slice-write-out-3
+    add-at-2
+    loop-less-2
+    loop-again-2
+    same-length
+    returns)
