@@ -1,0 +1,100 @@
+use borrow.Author.Needs.{needs}
+use mathlib.Core.Path.{_∙_}
+use Rattle.link_receive.specs.Receive.{eventOf, byteOf, timerOf}
+use Rattle.link_receive.proofs.take_event.Statement.{statement}
+use Rattle.link_receive.proofs.take_event.Tie as tie
+
+enum-known-event : tie.Need-enum-known-event
+enum-known-event c = search needs
+
+enum-told : tie.Need-enum-told
+enum-told c = search needs
+
+at-rest-requires : tie.Need-at-rest-requires
+at-rest-requires c κs = search needs
+
+enum-known-phase : tie.Need-enum-known-phase
+enum-known-phase c = search needs
+
+inside-requires : tie.Need-inside-requires
+inside-requires c κs = search needs
+
+enum-told-2 : tie.Need-enum-told-2
+enum-told-2 c = search needs
+
+waiting-requires : tie.Need-waiting-requires
+waiting-requires c κs = search needs
+
+enum-told-3 : tie.Need-enum-told-3
+enum-told-3 c = search needs
+
+enum-told-4 : tie.Need-enum-told-4
+enum-told-4 c = search needs
+
+rest-requires : tie.Need-rest-requires
+rest-requires c κs = search needs
+
+enum-told-5 : tie.Need-enum-told-5
+enum-told-5 c = search needs
+
+rest-requires-2 : tie.Need-rest-requires-2
+rest-requires-2 c κs = search needs
+
+enum-told-6 : tie.Need-enum-told-6
+enum-told-6 c = search needs
+
+rest-requires-3 : tie.Need-rest-requires-3
+rest-requires-3 c κs = search needs
+
+returns : tie.Need-returns
+unfolding eventOf byteOf timerOf
+returns c = rw (c .before .before .before .before .event .given .1, c .before .enum-told .given .1, c .at-rest .ensures)
+
+same-length : tie.Need-same-length
+same-length c = search needs
+
+returns-2 : tie.Need-returns-2
+unfolding eventOf byteOf timerOf
+returns-2 c = c .before .before .inside .ensures ∙ rw (c .before .before .before .before .before .before .before .before .event .given .1, c .before .before .before .before .before .phase .given .1)
+
+returns-3 : tie.Need-returns-3
+unfolding eventOf byteOf timerOf
+returns-3 c = rw (c .before .before .before .before .event .given .1, c .before .enum-told2 .given .1, c .waiting .ensures)
+
+returns-4 : tie.Need-returns-4
+unfolding eventOf byteOf timerOf
+returns-4 c = rw (c .before .before .before .enum-told3 .given .1, c .before .enum-told4 .given .1, c .rest .ensures)
+
+returns-5 : tie.Need-returns-5
+unfolding eventOf byteOf timerOf
+returns-5 c = rw (c .before .before .before .enum-told3 .given .1, c .before .enum-told5 .given .1, c .rest2 .ensures)
+
+returns-6 : tie.Need-returns-6
+unfolding eventOf byteOf timerOf
+returns-6 c = rw (c .before .before .before .enum-told3 .given .1, c .before .enum-told6 .given .1, c .rest3 .ensures)
+
+pub take-event-spec : {M : Type 1} → statement M
+take-event-spec =
+    tie.close
+    (tie.spec
+    enum-known-event
+    enum-told
+    at-rest-requires
+    enum-known-phase
+    inside-requires
+    enum-told-2
+    waiting-requires
+    enum-told-3
+    enum-told-4
+    rest-requires
+    enum-told-5
+    rest-requires-2
+    enum-told-6
+    rest-requires-3
+    returns
+    same-length
+    returns-2
+    returns-3
+    returns-4
+    returns-5
+    returns-6)

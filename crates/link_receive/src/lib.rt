@@ -1,0 +1,209 @@
+// The receiving half of 3964R, fed one event at a time.
+use link_frame::control::DLE;
+use link_frame::control::ETX;
+use link_frame::control::NAK;
+use link_frame::control::STX;
+use refusal::Refusal;
+ghost use mathlib.Core.Path.{_≡_};
+ghost use Rattle.link_receive.specs.Receive.{reactionOf, outcome, storing, resting, restOf, storeOf, dataOf, insideOf, waitingOf, eventOf, receiveOf, responseOf};
+
+// Whether the byte before was a DLE that opened a pair.
+pub enum Dle {
+    Seen,
+    NotSeen,
+}
+
+// At rest, inside a block, or waiting for the check byte.
+pub enum Phase {
+    Rest,
+    Inside(Dle),
+    Waiting,
+}
+
+// The number of data bytes stored and the running check, beside the phase.
+pub struct LinkState {
+    pub count: usize,
+    pub check: u8,
+    pub phase: Phase,
+}
+
+// A byte came, or the timer ran out.
+pub enum LinkEvent {
+    Byte(u8),
+    Timer,
+}
+
+// Nothing to send; a byte to send; a DLE to send and a message of so many bytes; a refusal.
+pub enum LinkAnswer {
+    Nothing,
+    Send(u8),
+    Message(usize),
+    Refused(Refusal),
+}
+
+// The answer to an event, and the state after it.
+pub struct LinkStep {
+    pub answer: LinkAnswer,
+    pub state: LinkState,
+}
+
+// What storing a byte gives: the state after it, or no room.
+enum Stored {
+    Kept(LinkState),
+    NoRoom,
+}
+
+// An answer that leaves the half at rest.
+fn rest(answer: LinkAnswer) -> LinkStep
+    ensures { λ r. ⌜ reactionOf r ≡ resting (responseOf answer) ⌝ }
+{
+    LinkStep {
+        answer,
+        state: LinkState {
+            count: 0,
+            check: 0,
+            phase: Phase::Rest,
+        },
+    }
+}
+
+// A byte at rest.
+fn at_rest(b: u8) -> LinkStep
+    ensures { λ r. ⌜ reactionOf r ≡ restOf b ⌝ }
+{
+    if b == STX {
+        return LinkStep {
+            answer: LinkAnswer::Send(DLE),
+            state: LinkState {
+                count: 0,
+                check: 0,
+                phase: Phase::Inside(Dle::NotSeen),
+            },
+        };
+    }
+    if b == NAK {
+        return rest(LinkAnswer::Nothing);
+    }
+    rest(LinkAnswer::Send(NAK))
+}
+
+// Stores b at the count.
+fn store(count: usize, check: u8, b: u8, buffer: &mut [u8]) -> Stored
+    ensures { λ r. ⌜ storing r (now (buffer .exit)) ≡ storeOf count check b (now (buffer .entry)) ⌝ }
+{
+    if buffer.len() <= count {
+        return Stored::NoRoom;
+    }
+    if 1024 <= count {
+        return Stored::NoRoom;
+    }
+    buffer[count] = b;
+    Stored::Kept(LinkState {
+        count: count + 1,
+        check,
+        phase: Phase::Inside(Dle::NotSeen),
+    })
+}
+
+// A data byte inside a block: stored, or NAK where there is no room.
+fn data_byte(count: usize, check: u8, b: u8, buffer: &mut [u8]) -> LinkStep
+    ensures { λ r. ⌜ outcome r (now (buffer .exit)) ≡ dataOf count check b (now (buffer .entry)) ⌝ }
+{
+    let Stored::Kept(state) = store(count, check, b, &mut *buffer) else {
+        return rest(LinkAnswer::Send(NAK));
+    };
+    LinkStep {
+        answer: LinkAnswer::Nothing,
+        state,
+    }
+}
+
+// A byte inside a block.
+fn inside(dle: Dle, count: usize, check: u8, b: u8, buffer: &mut [u8]) -> LinkStep
+    ensures { λ r. ⌜ outcome r (now (buffer .exit)) ≡ insideOf dle count check b (now (buffer .entry)) ⌝ }
+{
+    let next = check ^ b;
+    match dle {
+        Dle::NotSeen => {
+            if b == DLE {
+                return LinkStep {
+                    answer: LinkAnswer::Nothing,
+                    state: LinkState {
+                        count,
+                        check: next,
+                        phase: Phase::Inside(Dle::Seen),
+                    },
+                };
+            }
+            data_byte(count, next, b, &mut *buffer)
+        }
+        Dle::Seen => {
+            if b == DLE {
+                return data_byte(count, next, b, &mut *buffer);
+            }
+            if b == ETX {
+                return LinkStep {
+                    answer: LinkAnswer::Nothing,
+                    state: LinkState {
+                        count,
+                        check: next,
+                        phase: Phase::Waiting,
+                    },
+                };
+            }
+            rest(LinkAnswer::Send(NAK))
+        }
+    }
+}
+
+// The byte after DLE ETX.
+fn waiting(count: usize, check: u8, b: u8) -> LinkStep
+    ensures { λ r. ⌜ reactionOf r ≡ waitingOf count check b ⌝ }
+{
+    if b == check {
+        return rest(LinkAnswer::Message(count));
+    }
+    rest(LinkAnswer::Send(NAK))
+}
+
+// One event, at a state that agrees with its buffer.
+fn take_event(state: LinkState, event: LinkEvent, buffer: &mut [u8]) -> LinkStep
+    ensures { λ r. ⌜ outcome r (now (buffer .exit)) ≡ eventOf event state (now (buffer .entry)) ⌝ }
+{
+    let count = state.count;
+    let check = state.check;
+    let phase = state.phase;
+    match event {
+        LinkEvent::Byte(b) => match phase {
+            Phase::Rest => at_rest(b),
+            Phase::Inside(dle) => inside(dle, count, check, b, &mut *buffer),
+            Phase::Waiting => waiting(count, check, b),
+        },
+        LinkEvent::Timer => match phase {
+            Phase::Rest => rest(LinkAnswer::Nothing),
+            Phase::Inside(_) => rest(LinkAnswer::Send(NAK)),
+            Phase::Waiting => rest(LinkAnswer::Send(NAK)),
+        },
+    }
+}
+
+// One event: its answer and the state after it. It writes at most the place of the buffer at the count.
+// A state whose count exceeds the buffer's length or 1,024 is refused with 1, state and buffer as they were.
+pub fn receive(state: LinkState, event: LinkEvent, buffer: &mut [u8]) -> LinkStep
+    ensures { λ r. ⌜ outcome r (now (buffer .exit)) ≡ receiveOf state event (now (buffer .entry)) ⌝ }
+{
+    let count = state.count;
+    if buffer.len() < count {
+        return LinkStep {
+            answer: LinkAnswer::Refused(Refusal::Setup),
+            state,
+        };
+    }
+    if 1024 < count {
+        return LinkStep {
+            answer: LinkAnswer::Refused(Refusal::Setup),
+            state,
+        };
+    }
+    take_event(state, event, &mut *buffer)
+}
