@@ -1,3 +1,4 @@
+pub mod Choice
 pub mod Places
 pub mod Filling
 pub mod Words

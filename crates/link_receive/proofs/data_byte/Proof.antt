@@ -1,6 +1,4 @@
 use borrow.Author.Needs.{needs}
-use borrow.Author.Tests.{le-leb, lt-leb, lt-ltb, le-ltb, eq-eqb, ne-eqb}
-use mathlib.Core.Path.{_∙_, sym, ap}
 use Rattle.link_receive.specs.Receive.{dataOf, afterStore}
 use Rattle.link_receive.proofs.data_byte.Statement.{statement}
 use Rattle.link_receive.proofs.data_byte.Tie as tie
@@ -23,14 +21,17 @@ same-length c = search needs
 returns : tie.Need-returns
 unfolding dataOf afterStore
 returns c =
-    rw (← c .before .before .before .before .before .store .ensures, c .before .enum-told .given .1, c .rest .ensures)
+    let told = c .before in
+    rw (← told .before .before .before .before .store .ensures, told .enum-told .given .1, c .rest .ensures)
 
 same-length-2 : tie.Need-same-length-2
 same-length-2 c = search needs
 
 returns-2 : tie.Need-returns-2
 unfolding dataOf afterStore
-returns-2 c = rw (← c .before .before .before .before .before .store .ensures, c .before .state .given .1)
+returns-2 c =
+    let told = c .before in
+    rw (← told .before .before .before .before .store .ensures, told .state .given .1)
 
 pub data-byte-spec : {M : Type 1} → statement M
 data-byte-spec =

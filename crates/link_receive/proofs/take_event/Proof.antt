@@ -47,31 +47,43 @@ rest-requires-3 : tie.Need-rest-requires-3
 rest-requires-3 c κs = search needs
 
 returns : tie.Need-returns
-unfolding eventOf byteOf timerOf
-returns c = rw (c .before .before .before .before .event .given .1, c .before .enum-told .given .1, c .at-rest .ensures)
+unfolding eventOf byteOf
+returns c =
+    let phase = c .before in
+    rw (phase .before .before .before .event .given .1, phase .enum-told .given .1, c .at-rest .ensures)
 
 same-length : tie.Need-same-length
 same-length c = search needs
 
 returns-2 : tie.Need-returns-2
-unfolding eventOf byteOf timerOf
-returns-2 c = c .before .before .inside .ensures ∙ rw (c .before .before .before .before .before .before .before .before .event .given .1, c .before .before .before .before .before .phase .given .1)
+unfolding eventOf byteOf
+returns-2 c =
+    let phase = c .before .before .before .before .before in
+    c .before .before .inside .ensures ∙ rw (phase .before .before .before .event .given .1, phase .phase .given .1)
 
 returns-3 : tie.Need-returns-3
-unfolding eventOf byteOf timerOf
-returns-3 c = rw (c .before .before .before .before .event .given .1, c .before .enum-told2 .given .1, c .waiting .ensures)
+unfolding eventOf byteOf
+returns-3 c =
+    let phase = c .before in
+    rw (phase .before .before .before .event .given .1, phase .enum-told2 .given .1, c .waiting .ensures)
 
 returns-4 : tie.Need-returns-4
-unfolding eventOf byteOf timerOf
-returns-4 c = rw (c .before .before .before .enum-told3 .given .1, c .before .enum-told4 .given .1, c .rest .ensures)
+unfolding eventOf timerOf
+returns-4 c =
+    let phase = c .before in
+    rw (phase .before .before .enum-told3 .given .1, phase .enum-told4 .given .1, c .rest .ensures)
 
 returns-5 : tie.Need-returns-5
-unfolding eventOf byteOf timerOf
-returns-5 c = rw (c .before .before .before .enum-told3 .given .1, c .before .enum-told5 .given .1, c .rest2 .ensures)
+unfolding eventOf timerOf
+returns-5 c =
+    let phase = c .before in
+    rw (phase .before .before .enum-told3 .given .1, phase .enum-told5 .given .1, c .rest2 .ensures)
 
 returns-6 : tie.Need-returns-6
-unfolding eventOf byteOf timerOf
-returns-6 c = rw (c .before .before .before .enum-told3 .given .1, c .before .enum-told6 .given .1, c .rest3 .ensures)
+unfolding eventOf timerOf
+returns-6 c =
+    let phase = c .before in
+    rw (phase .before .before .enum-told3 .given .1, phase .enum-told6 .given .1, c .rest3 .ensures)
 
 pub take-event-spec : {M : Type 1} → statement M
 take-event-spec =
