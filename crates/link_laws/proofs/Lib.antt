@@ -1,0 +1,3 @@
+pub mod Feeding
+pub mod RoundTrip
+pub mod Events

@@ -1,0 +1,26 @@
+-- What holds of every event.
+-- Assumes nothing.
+use Prim.Native.Nat.{ℕ}
+use mathlib.Core.Path.{_≡_}
+use mathlib.Core.Bool.{false}
+use mathlib.Core.List.{List}
+use lib.ListN.{length, getD}
+use Rattle.link_receive.specs.Receive.{at, against, receiveOf}
+use Rattle.link_receive.specs.declared.LinkEvent.{LinkEvent}
+use Rattle.link_receive.specs.declared.LinkState.{LinkState}
+use Rattle.link_receive.specs.declared.Phase.the-variants.{Rest}
+
+-- a list after a store at one place at most
+pub record OnlyAt (place : ℕ) (before after : List ℕ) : Type 0 where
+  pub long : length after ≡ length before
+  pub kept : (i : ℕ) → (i ≡ place → ⊥) → getD after i 0 ≡ getD before i 0
+
+-- an event writes at most the place at the count
+abbrev pub WritesAtCount : Type 0
+WritesAtCount = (s : LinkState) (e : LinkEvent) (buf : List ℕ) → OnlyAt (s .count) buf (receiveOf s e buf .buffer)
+
+-- an event that leaves the half at rest leaves count and running check 0
+abbrev pub RestIsClear : Type 0
+RestIsClear =
+    (s : LinkState) (e : LinkEvent) (buf : List ℕ) → against (s .count) buf ≡ false →
+    receiveOf s e buf .reaction .next .phase ≡ Rest → receiveOf s e buf .reaction .next ≡ at Rest 0 0

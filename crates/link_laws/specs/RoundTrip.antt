@@ -1,0 +1,24 @@
+-- A frame read back by the receiving half.
+-- Assumes nothing.
+use Prim.Native.Nat.{ℕ, _-_, _≤_}
+use mathlib.Core.Path.{_≡_}
+use mathlib.Core.List.{List, [], _∷_, _++_}
+use lib.ListN.{length, replicate}
+use Rattle.base.specs.Places.{placed}
+use Rattle.link_frame.specs.ControlBytes.{STX, DLE}
+use Rattle.link_frame.specs.Frame.{frameOf}
+use Rattle.link_receive.specs.Receive.{Response, nothing, sends, delivers, at}
+use Rattle.link_receive.specs.declared.Phase.the-variants.{Rest}
+use Rattle.link_laws.specs.Feeding.{Fed, feed}
+
+-- the answers to STX and the frame of data: DLE; nothing for each byte between; DLE and the message for the check byte
+abbrev pub frameAnswers : List ℕ → List Response
+frameAnswers d = sends DLE ∷ (replicate (length (frameOf d) - 1) nothing ++ (delivers DLE (length d) ∷ []))
+
+-- Fed STX and then the frame of at most 1,024 bytes of data, a half at rest with count 0, any running check and a buffer
+-- with room ends at rest with the data as its message: in the buffer's first places, and every place behind unchanged.
+abbrev pub RoundTrip : Type 0
+RoundTrip =
+    (d buf : List ℕ) (check : ℕ) → length d ≤ 1024 → length d ≤ length buf →
+    feed (at Rest 0 check) buf (STX ∷ frameOf d)
+    ≡ record { answers = frameAnswers d; state = at Rest 0 0; buffer = placed d buf }

@@ -1,0 +1,1 @@
+// Laws of the 3964R link as a whole; no code.
