@@ -16,6 +16,16 @@ use Rattle.base.specs.Choice.{pick}
 use Rattle.link_frame.specs.ControlBytes.{DLE}
 use Rattle.link_frame.specs.Frame.{sent, doubled, xorOver}
 
+-- a DLE is sent twice, any other byte once
+module _ (b : ℕ) (bs : List ℕ) where
+  pub doubled-dle : b ≡ DLE → doubled (b ∷ bs) ≡ b ∷ b ∷ doubled bs
+  unfolding doubled sent
+  doubled-dle e = simp (eq-eqb _ _ e)
+
+  pub doubled-other : (b ≡ DLE → ⊥) → doubled (b ∷ bs) ≡ b ∷ doubled bs
+  unfolding doubled sent
+  doubled-other d = simp (ne-eqb _ _ d)
+
 pub none-left : (d : List ℕ) (i : ℕ) → length d ≤ i → doubled (drop i d) ≡ []
 unfolding doubled
 none-left d i h = rw (drop-of-length-le d h)
@@ -27,15 +37,12 @@ Twice d i = doubled (drop i d) ≡ getD d i 0 ∷ getD d i 0 ∷ doubled (drop (
 abbrev pub Once : List ℕ → ℕ → Type 0
 Once d i = doubled (drop i d) ≡ getD d i 0 ∷ doubled (drop (i + 1) d)
 
--- a DLE stands there twice, any other byte once
 module _ (d : List ℕ) (i : ℕ) (h : i < length d) where
   pub next-dle : getD d i 0 ≡ DLE → Twice d i
-  unfolding doubled sent
-  next-dle e = rw (drop-cons d i 0, add-one) (simp (eq-eqb _ _ e))
+  next-dle e = rw (drop-cons d i 0, add-one) (doubled-dle _ _ e)
 
   pub next-other : (getD d i 0 ≡ DLE → ⊥) → Once d i
-  unfolding doubled sent
-  next-other e = rw (drop-cons d i 0, add-one) (simp (ne-eqb _ _ e))
+  next-other e = rw (drop-cons d i 0, add-one) (doubled-other _ _ e)
 
 -- the doubled data is at most twice as long
 sent-bound : (b : ℕ) (t : Bool) → length (pick t (b ∷ b ∷ []) (b ∷ [])) ≤ 2

@@ -15,7 +15,8 @@ use lib.Seq.{sets, length-sets}
 use Rattle.base.specs.Places.{placed}
 use Rattle.base.proofs.Places.{sets-placed}
 use Rattle.link_frame.specs.ControlBytes.{STX, ETX, DLE}
-use Rattle.link_frame.specs.Frame.{sent, doubled, xorOver, checkByte, frameOf}
+use Rattle.link_frame.specs.Frame.{doubled, xorOver, checkByte, frameOf}
+use Rattle.link_frame.proofs.Doubling.{doubled-dle, doubled-other}
 use Rattle.link_frame.proofs.Framing.{check-byte, length-frame}
 use Rattle.link_receive.specs.Receive.{Response, nothing, sends, delivers, at}
 use Rattle.link_receive.specs.declared.Dle.the-variants.{Seen, NotSeen}
@@ -31,14 +32,6 @@ Taken d =
     feed (at (Inside NotSeen) n c) buf (doubled d ++ ts)
     ≡ after (replicate (length (doubled d)) nothing) (feed (at (Inside NotSeen) (n + length d) (xorOver c (doubled d))) (sets buf n d) ts)
 
-dle-twice : (b : ℕ) (bs : List ℕ) → eqb b DLE ≡ true → doubled (b ∷ bs) ≡ b ∷ b ∷ doubled bs
-unfolding doubled sent
-dle-twice b bs e = simp e
-
-other-once : (b : ℕ) (bs : List ℕ) → eqb b DLE ≡ false → doubled (b ∷ bs) ≡ b ∷ doubled bs
-unfolding doubled sent
-other-once b bs e = simp e
-
 -- an answer before others
 before : (r : Response) {f g : Fed} → f ≡ g → after (r ∷ []) f ≡ after (r ∷ []) g
 before r e = ap (after (r ∷ [])) e
@@ -46,13 +39,13 @@ before r e = ap (after (r ∷ [])) e
 more : (b : ℕ) (bs : List ℕ) → Taken bs → (v : Bool) → eqb b DLE ≡ v → Taken (b ∷ bs)
 unfolding xorOver
 more b bs ih true e n c buf ts h k =
-    rw (dle-twice b bs e, add-suc n (length bs), ← suc-add n (length bs), ← add-one n)
+    rw (doubled-dle b bs (eqb-true _ _ e), add-suc n (length bs), ← suc-add n (length bs), ← add-one n)
     (fed-first n c buf _ (omega arith) (omega arith) b (eqb-true _ _ e)
     ∙ before nothing
     (fed-second n (bitXor c b) b buf _ (omega arith) (omega arith) (eqb-true _ _ e)
     ∙ before nothing (ih (n + 1) _ (set buf n b) ts (simp length-set (omega arith)) (omega arith))))
 more b bs ih false e n c buf ts h k =
-    rw (other-once b bs e, add-suc n (length bs), ← suc-add n (length bs), ← add-one n)
+    rw (doubled-other b bs (eqb-false _ _ e), add-suc n (length bs), ← suc-add n (length bs), ← add-one n)
     (fed-data n c b buf _ (omega arith) (omega arith) (eqb-false _ _ e)
     ∙ before nothing (ih (n + 1) _ (set buf n b) ts (simp length-set (omega arith)) (omega arith)))
 
