@@ -1,0 +1,1 @@
+// The worked cases, as one proved table; no code.
