@@ -1,0 +1,34 @@
+// What is only run. Without an argument: the calls at their limits, and the receiving half's table row by row.
+// `play` frames standard input and feeds the frame back; `listen` feeds standard input to a receiving half.
+mod limits;
+mod link;
+mod show;
+
+use libc::STDIN_FILENO;
+
+// The first letter of the argument; 0 where there is none.
+fn mode() -> u8 {
+    let mut word = [0u8; 16];
+    let n = os::arg(1, &mut word);
+    if n == 0 {
+        return 0;
+    }
+    word[0]
+}
+
+fn main() {
+    let m = mode();
+    if m == b'l' {
+        link::listen();
+        return;
+    }
+    if m == b'p' {
+        // One byte more than a frame takes shows that the data is too long.
+        let mut input = [0u8; 1025];
+        let n = io::read_full(STDIN_FILENO, &mut input);
+        link::play(&input[..n]);
+        return;
+    }
+    limits::frames();
+    limits::events();
+}

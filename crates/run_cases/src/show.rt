@@ -1,0 +1,104 @@
+// Numbers, states, events and answers as text on standard output.
+use libc::STDOUT_FILENO;
+use link_receive::Dle;
+use link_receive::LinkAnswer;
+use link_receive::LinkEvent;
+use link_receive::LinkState;
+use link_receive::LinkStep;
+use link_receive::Phase;
+use refusal::Refusal;
+
+pub(crate) fn text(s: &[u8]) {
+    io::write_all(STDOUT_FILENO, s);
+}
+
+// The capital hex digit of a number below 16.
+fn hex_digit(n: u8) -> u8 {
+    let d = n % 16;
+    if d < 10 { b'0' + d } else { 55 + d }
+}
+
+// A byte in two hex digits, after a space.
+pub(crate) fn byte(b: u8) {
+    text(&[b' ', hex_digit(b / 16), hex_digit(b)]);
+}
+
+// The first n bytes, and the end of the line.
+pub(crate) fn line(s: &[u8], n: usize) {
+    let mut i: usize = 0;
+    while i < n {
+        if s.len() <= i {
+            return;
+        }
+        byte(s[i]);
+        i += 1;
+    }
+    text(b"\n");
+}
+
+// A number, after a space.
+pub(crate) fn number(n: usize) {
+    text(b" ");
+    io::print_decimal(STDOUT_FILENO, n as u64);
+}
+
+pub(crate) fn refusal(r: Refusal) {
+    text(b" refused");
+    number(r.number() as usize);
+}
+
+fn phase(p: Phase) {
+    match p {
+        Phase::Rest => text(b"rest"),
+        Phase::Inside(dle) => match dle {
+            Dle::NotSeen => text(b"inside"),
+            Dle::Seen => text(b"inside after DLE"),
+        },
+        Phase::Waiting => text(b"waiting"),
+    }
+}
+
+// Phase, check and count.
+pub(crate) fn state(s: LinkState) {
+    let p = s.phase;
+    phase(p);
+    text(b", check");
+    byte(s.check);
+    text(b", count");
+    number(s.count);
+}
+
+pub(crate) fn event(e: LinkEvent) {
+    match e {
+        LinkEvent::Byte(b) => {
+            text(b", byte");
+            byte(b);
+        }
+        LinkEvent::Timer => text(b", timer"),
+    }
+    text(b":");
+}
+
+pub(crate) fn answer(a: LinkAnswer) {
+    match a {
+        LinkAnswer::Nothing => text(b" nothing"),
+        LinkAnswer::Send(b) => {
+            text(b" sends");
+            byte(b);
+        }
+        LinkAnswer::Message(n) => {
+            text(b" sends 10, message of");
+            number(n);
+        }
+        LinkAnswer::Refused(r) => refusal(r),
+    }
+}
+
+// The answer, and the state after it.
+pub(crate) fn step(s: LinkStep) {
+    let a = s.answer;
+    let next = s.state;
+    answer(a);
+    text(b"; ");
+    state(next);
+}
