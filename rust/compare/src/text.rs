@@ -1,0 +1,275 @@
+//! The text that the program must print, by the reference.
+
+use crate::inputs::{Case, Mode};
+use reference::link::{frame, receive, Answer, Event, Phase, State};
+use reference::link::{BAD_STATE, DATA_TOO_LONG, DLE, MAX_DATA, NAK, OUTPUT_TOO_SHORT, STX};
+use std::collections::BTreeMap;
+
+/// The kinds of answer that a run must reach.
+pub const KINDS: [&str; 15] = [
+    "frame written",
+    "refused 11",
+    "refused 12",
+    "nothing",
+    "nothing for the timer",
+    "10 at an opening",
+    "NAK at rest",
+    "NAK after a DLE and another byte",
+    "NAK for no room",
+    "NAK for a wrong check byte",
+    "NAK for the timer",
+    "message of 0 bytes",
+    "message of 1,024 bytes",
+    "message of another length",
+    "refused 1",
+];
+
+/// How often each kind of answer came.
+pub type Tally = BTreeMap<&'static str, u64>;
+
+/// A text, and the kinds of answer in it.
+#[derive(Default)]
+pub struct Expected {
+    pub text: String,
+    pub tally: Tally,
+}
+
+/// Each byte in two hex digits after a space.
+pub fn hex(bytes: &[u8]) -> String {
+    bytes.iter().map(|byte| format!(" {byte:02X}")).collect()
+}
+
+/// What the program must print in a case.
+pub fn expected(case: &Case) -> Expected {
+    let mut expected = Expected::default();
+    match case.mode {
+        Mode::Limits => expected.limits(),
+        Mode::Play => expected.play(&case.input),
+        Mode::Listen => expected.feed(&case.input),
+    }
+    expected
+}
+
+impl Expected {
+    fn count(&mut self, kind: &'static str) {
+        *self.tally.entry(kind).or_default() += 1;
+    }
+
+    fn line(&mut self, word: &str, bytes: &[u8]) {
+        self.text += &format!("{word}{}\n", hex(bytes));
+    }
+
+    fn play(&mut self, data: &[u8]) {
+        let mut out = [0; 2 * MAX_DATA + 3];
+        let framed = frame(data, &mut out);
+        self.count(frame_kind(framed));
+        match framed {
+            Err(number) => self.text += &format!("frame: refused {number}\n"),
+            Ok(length) => {
+                let frame = &out[..length];
+                self.line("data", data);
+                self.line("frame", frame);
+                self.feed(&[&[STX], frame].concat());
+                // Every frame is read back as its data.
+                self.text += "the message is the data\n";
+            }
+        }
+    }
+
+    /// Feeds the bytes to a half at rest.
+    fn feed(&mut self, bytes: &[u8]) {
+        let mut buffer = [0; MAX_DATA];
+        let mut state = State {
+            phase: Phase::Rest,
+            count: 0,
+            check: 0,
+        };
+        for &byte in bytes {
+            let event = Event::Byte(byte);
+            let (answer, next) = receive(state, event, &mut buffer);
+            self.count(kind(state.phase, event, answer));
+            state = next;
+            self.text += &format!("fed {byte:02X}:{}\n", answer_text(answer));
+            if let Answer::Message(count) = answer {
+                self.line("message", &buffer[..count]);
+            }
+        }
+    }
+
+    fn limits(&mut self) {
+        for (value, length, places) in FRAMES {
+            self.frame_limit(value, length, places);
+        }
+        for phase in PHASES {
+            for (count, event, places) in EVENTS {
+                self.event_limit(phase, count, event, places);
+            }
+        }
+    }
+
+    fn frame_limit(&mut self, value: u8, length: usize, places: usize) {
+        let mut out = vec![BEFORE; places];
+        let framed = frame(&vec![value; length], &mut out);
+        self.count(frame_kind(framed));
+        let given = match framed {
+            Ok(length) => format!("{length}"),
+            Err(number) => format!("refused {number}"),
+        };
+        let rest = rest_text(&out[framed.unwrap_or(0)..]);
+        self.text +=
+            &format!("frame of {length} bytes {value:02X} into {places} places: {given}{rest}\n");
+    }
+
+    fn event_limit(&mut self, phase: Phase, count: usize, event: Event, places: usize) {
+        let state = State {
+            phase,
+            count,
+            check: 0x44,
+        };
+        let mut buffer = vec![BEFORE; places];
+        let (answer, next) = receive(state, event, &mut buffer);
+        self.count(kind(phase, event, answer));
+        let event = match event {
+            Event::Byte(byte) => format!("byte {byte:02X}"),
+            Event::Timer => "timer".into(),
+        };
+        self.text += &format!(
+            "{} of {places}, {event}:{}; {}{}\n",
+            state_text(state),
+            answer_text(answer),
+            state_text(next),
+            rest_text(&buffer)
+        );
+    }
+}
+
+/// What outputs and buffers hold before a call at a limit.
+const BEFORE: u8 = 0xEE;
+
+/// Frames at their limits: the value of all data bytes, their number, and the places of the output.
+const FRAMES: [(u8, usize, usize); 10] = [
+    (0x00, 1024, 2051),
+    (0x00, 1024, 1027),
+    (0x00, 1024, 1026),
+    (0x10, 1024, 2052),
+    (0x10, 1024, 2051),
+    (0x10, 1024, 2050),
+    (0x00, 1025, 2051),
+    (0x00, 1025, 0),
+    (0x00, 0, 3),
+    (0x00, 0, 2),
+];
+
+const PHASES: [Phase; 4] = [
+    Phase::Rest,
+    Phase::Inside { dle_seen: false },
+    Phase::Inside { dle_seen: true },
+    Phase::Waiting,
+];
+
+/// Events at each phase: the count before, the event, and the places of the buffer.
+const EVENTS: [(usize, Event, usize); 14] = [
+    (2, Event::Byte(0x02), 3),
+    (2, Event::Byte(0x03), 3),
+    (2, Event::Byte(0x10), 3),
+    (2, Event::Byte(0x15), 3),
+    (2, Event::Byte(0x44), 3),
+    (2, Event::Timer, 3),
+    (3, Event::Byte(0x10), 3),
+    (3, Event::Byte(0x60), 3),
+    (4, Event::Byte(0x10), 3),
+    (4, Event::Timer, 3),
+    (1023, Event::Byte(0x10), 1025),
+    (1024, Event::Byte(0x10), 1025),
+    (1024, Event::Byte(0x60), 1025),
+    (1025, Event::Byte(0x10), 1025),
+];
+
+fn rest_text(rest: &[u8]) -> &'static str {
+    match rest.iter().all(|&byte| byte == BEFORE) {
+        true => ", the rest unchanged",
+        false => "",
+    }
+}
+
+fn state_text(state: State) -> String {
+    let phase = match state.phase {
+        Phase::Rest => "rest",
+        Phase::Inside { dle_seen: false } => "inside",
+        Phase::Inside { dle_seen: true } => "inside after DLE",
+        Phase::Waiting => "waiting",
+    };
+    format!("{phase}, check {:02X}, count {}", state.check, state.count)
+}
+
+fn answer_text(answer: Answer) -> String {
+    match answer {
+        Answer::Nothing => " nothing".into(),
+        Answer::Send(byte) => format!(" sends {byte:02X}"),
+        Answer::Message(count) => format!(" sends 10, message of {count}"),
+        Answer::Refused(number) => format!(" refused {number}"),
+    }
+}
+
+fn frame_kind(framed: Result<usize, u8>) -> &'static str {
+    match framed {
+        Ok(_) => "frame written",
+        Err(OUTPUT_TOO_SHORT) => "refused 11",
+        Err(DATA_TOO_LONG) => "refused 12",
+        Err(_) => "another answer",
+    }
+}
+
+/// The kind of an answer to an event in a phase.
+fn kind(phase: Phase, event: Event, answer: Answer) -> &'static str {
+    match (answer, phase, event) {
+        (Answer::Refused(BAD_STATE), _, _) => "refused 1",
+        (Answer::Nothing, _, Event::Timer) => "nothing for the timer",
+        (Answer::Send(NAK), _, Event::Timer) => "NAK for the timer",
+        (Answer::Nothing, _, _) => "nothing",
+        (Answer::Send(DLE), Phase::Rest, _) => "10 at an opening",
+        (Answer::Send(NAK), Phase::Rest, _) => "NAK at rest",
+        (Answer::Send(NAK), Phase::Inside { dle_seen: true }, Event::Byte(byte)) if byte != DLE => {
+            "NAK after a DLE and another byte"
+        }
+        (Answer::Send(NAK), Phase::Inside { .. }, _) => "NAK for no room",
+        (Answer::Send(NAK), Phase::Waiting, _) => "NAK for a wrong check byte",
+        (Answer::Message(0), _, _) => "message of 0 bytes",
+        (Answer::Message(MAX_DATA), _, _) => "message of 1,024 bytes",
+        (Answer::Message(_), _, _) => "message of another length",
+        _ => "another answer",
+    }
+}
+
+#[cfg(test)]
+mod tests {
+    use super::*;
+
+    fn text(mode: Mode, input: &[u8]) -> String {
+        let (name, input, piece) = (String::new(), input.to_vec(), 1);
+        expected(&Case {
+            name,
+            mode,
+            input,
+            piece,
+        })
+        .text
+    }
+
+    #[test]
+    fn framing() {
+        let lines = "data 10\nframe 10 10 10 03 13\n\
+            fed 02: sends 10\nfed 10: nothing\nfed 10: nothing\nfed 10: nothing\nfed 03: nothing\n\
+            fed 13: sends 10, message of 1\nmessage 10\nthe message is the data\n";
+        assert_eq!(text(Mode::Play, &[0x10]), lines);
+        assert_eq!(text(Mode::Play, &[0; 1025]), "frame: refused 12\n");
+    }
+
+    #[test]
+    fn listening() {
+        let lines = "fed 41: sends 15\nfed 15: nothing\nfed 02: sends 10\nfed 10: nothing\nfed 03: nothing\n\
+            fed 13: sends 10, message of 0\nmessage\n";
+        let bytes = [0x41, 0x15, 0x02, 0x10, 0x03, 0x13];
+        assert_eq!(text(Mode::Listen, &bytes), lines);
+    }
+}
