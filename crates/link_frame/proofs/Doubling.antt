@@ -1,48 +1,69 @@
--- What is left of the doubled data from place i on, where the byte there is a DLE and where it is another.
--- Each law turns a statement of what is left from i into the same of what is left from i + 1.
+-- The doubled data, byte by byte: what is done, and what is left from place i on.
 -- Assumes nothing.
-use mathlib.Core.Path.{_≡_, refl, ap, sym, _∙_}
+use mathlib.Core.Path.{_≡_, ap, sym, _∙_}
 use mathlib.Core.Bool.{Bool, true, false}
 use mathlib.Core.List.{List, [], _∷_, _++_}
-use Prim.Native.Nat.{ℕ, suc, _+_, _*_, _≤_, _<_}
-use native.Mathlib.Numerals.{add-one, add-two}
+use Prim.Native.Nat.{ℕ, _+_, _*_, _≤_, _<_}
+use native.Mathlib.Numerals.{add-one}
 use native.Mathlib.Omega.{arith}
 use borrow.Author.Tests.{eq-eqb, ne-eqb}
-use lib.Bits.{bitXor}
 use lib.Dec.{eqb}
-use lib.ListN.{length, drop, getD, set, length-append, drop-of-length-le}
+use lib.ListN.{length, drop, getD, length-append, drop-of-length-le}
 use lib.Seq.{drop-cons, sets}
 use Rattle.base.specs.Choice.{pick}
+use Rattle.base.proofs.Places.{sets-append}
 use Rattle.link_frame.specs.ControlBytes.{DLE}
 use Rattle.link_frame.specs.Frame.{sent, doubled, xorOver}
+use Rattle.link_frame.proofs.Check.{xor-append}
 
 -- a DLE is sent twice, any other byte once
-module _ (b : ℕ) (bs : List ℕ) where
-  pub doubled-dle : b ≡ DLE → doubled (b ∷ bs) ≡ b ∷ b ∷ doubled bs
-  unfolding doubled sent
-  doubled-dle e = simp (eq-eqb _ _ e)
+module _ (b : ℕ) where
+  pub sent-dle : b ≡ DLE → sent b ≡ b ∷ b ∷ []
+  unfolding sent
+  sent-dle e = simp (eq-eqb _ _ e)
 
-  pub doubled-other : (b ≡ DLE → ⊥) → doubled (b ∷ bs) ≡ b ∷ doubled bs
-  unfolding doubled sent
-  doubled-other d = simp (ne-eqb _ _ d)
+  pub sent-other : (b ≡ DLE → ⊥) → sent b ≡ b ∷ []
+  unfolding sent
+  sent-other d = simp (ne-eqb _ _ d)
+
+-- what is left at place i: the byte there as it is sent, and what is left behind it
+pub record Next (d : List ℕ) (i : ℕ) (s : List ℕ) : Type 0 where
+  pub is : doubled (drop i d) ≡ s ++ doubled (drop (i + 1) d)
+
+abbrev pub Twice : List ℕ → ℕ → Type 0
+Twice d i = Next d i (getD d i 0 ∷ getD d i 0 ∷ [])
+
+abbrev pub Once : List ℕ → ℕ → Type 0
+Once d i = Next d i (getD d i 0 ∷ [])
+
+module _ (d : List ℕ) (i : ℕ) (h : i < length d) where
+  next : {s : List ℕ} → sent (getD d i 0) ≡ s → Next d i s
+  unfolding doubled
+  next e = record { is = rw (drop-cons d i 0, add-one) (rw e) }
+
+  pub next-dle : getD d i 0 ≡ DLE → Twice d i
+  next-dle e = next (sent-dle (getD d i 0) e)
+
+  pub next-other : (getD d i 0 ≡ DLE → ⊥) → Once d i
+  next-other e = next (sent-other (getD d i 0) e)
 
 pub none-left : (d : List ℕ) (i : ℕ) → length d ≤ i → doubled (drop i d) ≡ []
 unfolding doubled
 none-left d i h = rw (drop-of-length-le d h)
 
--- the first byte of what is left stands there twice, or once
-abbrev pub Twice : List ℕ → ℕ → Type 0
-Twice d i = doubled (drop i d) ≡ getD d i 0 ∷ getD d i 0 ∷ doubled (drop (i + 1) d)
+-- what stays equal while a byte goes from what is left to what is done
+module _ {d : List ℕ} {i : ℕ} {s : List ℕ} (e : Next d i s) where
+  abbrev left : ℕ → List ℕ
+  left k = doubled (drop k d)
 
-abbrev pub Once : List ℕ → ℕ → Type 0
-Once d i = doubled (drop i d) ≡ getD d i 0 ∷ doubled (drop (i + 1) d)
+  pub length-step : {t : ℕ} (n : ℕ) → n + length (left i) ≡ t → n + length s + length (left (i + 1)) ≡ t
+  length-step n k = omega (arith, ap length (e .is), length-append s (left (i + 1)))
 
-module _ (d : List ℕ) (i : ℕ) (h : i < length d) where
-  pub next-dle : getD d i 0 ≡ DLE → Twice d i
-  next-dle e = rw (drop-cons d i 0, add-one) (doubled-dle _ _ e)
+  pub xor-step : {t : ℕ} (c : ℕ) → xorOver c (left i) ≡ t → xorOver (xorOver c s) (left (i + 1)) ≡ t
+  xor-step c k = sym (xor-append c s (left (i + 1))) ∙ sym (ap (xorOver c) (e .is)) ∙ k
 
-  pub next-other : (getD d i 0 ≡ DLE → ⊥) → Once d i
-  next-other e = rw (drop-cons d i 0, add-one) (doubled-other _ _ e)
+  pub sets-step : {t : List ℕ} (o : List ℕ) (at : ℕ) → sets o at (left i) ≡ t → sets (sets o at s) (at + length s) (left (i + 1)) ≡ t
+  sets-step o at k = sym (sets-append o at s (left (i + 1))) ∙ sym (ap (sets o at) (e .is)) ∙ k
 
 -- the doubled data is at most twice as long
 sent-bound : (b : ℕ) (t : Bool) → length (pick t (b ∷ b ∷ []) (b ∷ [])) ≤ 2
@@ -53,26 +74,3 @@ pub doubled-bound : (d : List ℕ) → length (doubled d) ≤ 2 * length d
 unfolding doubled sent
 doubled-bound [] = omega arith
 doubled-bound (b ∷ bs) = simp length-append (omega (arith, sent-bound b (eqb b DLE), doubled-bound bs))
-
--- what stays equal while one byte, or the same byte twice, goes from what is left to what is done
-module _ {l r : List ℕ} {b t : ℕ} where
-  pub length-one : (n : ℕ) → l ≡ b ∷ r → n + length l ≡ t → (n + 1) + length r ≡ t
-  length-one n e k = omega (arith, ap length e)
-
-  pub length-two : (n : ℕ) → l ≡ b ∷ b ∷ r → n + length l ≡ t → (n + 2) + length r ≡ t
-  length-two n e k = omega (arith, ap length e)
-
-  pub xor-one : (c : ℕ) → l ≡ b ∷ r → xorOver c l ≡ t → xorOver (bitXor c b) r ≡ t
-  unfolding xorOver
-  xor-one c e k = sym (ap (xorOver c) e) ∙ k
-
-  pub xor-two : (c : ℕ) → l ≡ b ∷ b ∷ r → xorOver c l ≡ t → xorOver (bitXor (bitXor c b) b) r ≡ t
-  unfolding xorOver
-  xor-two c e k = sym (ap (xorOver c) e) ∙ k
-
-module _ {l r t : List ℕ} {b : ℕ} where
-  pub sets-one : (o : List ℕ) (at : ℕ) → l ≡ b ∷ r → sets o at l ≡ t → sets (set o at b) (at + 1) r ≡ t
-  sets-one o at e k = rw add-one (sym (ap (sets o at) e) ∙ k)
-
-  pub sets-two : (o : List ℕ) (at : ℕ) → l ≡ b ∷ b ∷ r → sets o at l ≡ t → sets (set (set o at b) (at + 1) b) (at + 2) r ≡ t
-  sets-two o at e k = rw (add-one, add-two) (sym (ap (sets o at) e) ∙ k)

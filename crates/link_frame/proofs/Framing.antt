@@ -1,7 +1,7 @@
 -- The frame as three stores after the doubled data, and each case of what framing gives.
 -- Assumes nothing.
-use mathlib.Core.Path.{_≡_, refl, _∙_}
-use mathlib.Core.List.{List, [], _∷_, _++_}
+use mathlib.Core.Path.{_≡_}
+use mathlib.Core.List.{List}
 use Prim.Native.Nat.{ℕ, _+_, _≤_, _<_}
 use native.Mathlib.Nat.{zero-add}
 use native.Mathlib.Numerals.{add-one, add-two}
@@ -9,22 +9,13 @@ use borrow.Author.Tests.{lt-ltb, le-ltb}
 use lib.Bits.{bitXor}
 use lib.ListN.{length, set, length-append}
 use lib.Seq.{sets}
-use Rattle.base.specs.Filling.{fitted, denied, written}
+use Rattle.base.specs.Filling.{denied, written}
 use Rattle.base.proofs.Places.{sets-append, sets-placed}
 use Rattle.base.proofs.Filling.{fitted-short, fitted-room}
+use Rattle.link_frame.proofs.Check.{check-byte}
 use Rattle.link_frame.specs.ControlBytes.{ETX, DLE}
-use Rattle.link_frame.specs.Frame.{doubled, xorOver, checkByte, frameOf, framing, outcome}
+use Rattle.link_frame.specs.Frame.{doubled, xorOver, frameOf, framing, outcome}
 use Rattle.link_frame.specs.declared.FrameAnswer.the-variants.{Written}
-
-pub xor-append : (c : ℕ) (xs ys : List ℕ) → xorOver c (xs ++ ys) ≡ xorOver (xorOver c xs) ys
-unfolding xorOver
-xor-append c [] ys = refl
-xor-append c (x ∷ xs) ys = xor-append (bitXor c x) xs ys
-
--- the check byte from the running check over the doubled data
-pub check-byte : (d : List ℕ) → checkByte d ≡ bitXor (bitXor (xorOver 0 (doubled d)) DLE) ETX
-unfolding checkByte xorOver
-check-byte d = xor-append 0 (doubled d) (DLE ∷ ETX ∷ [])
 
 pub length-frame : (d : List ℕ) → length (frameOf d) ≡ length (doubled d) + 3
 unfolding frameOf

@@ -3,7 +3,7 @@
 use mathlib.Core.Path.{_≡_, refl, ap, sym, _∙_}
 use mathlib.Core.Bool.{Bool, true, false}
 use mathlib.Core.List.{List, [], _∷_, _++_, append-assoc}
-use Prim.Native.Nat.{ℕ, suc, _+_, _-_, _≤_, _<_}
+use Prim.Native.Nat.{ℕ, _+_, _-_, _≤_}
 use native.Mathlib.Nat.{add-zero, add-suc, suc-add, zero-add}
 use native.Mathlib.Numerals.{add-one}
 use native.Mathlib.Omega.{arith}
@@ -14,15 +14,16 @@ use lib.ListN.{length, set, length-set, replicate, replicate-append-replicate}
 use lib.Seq.{sets, length-sets}
 use Rattle.base.specs.Places.{placed}
 use Rattle.base.proofs.Places.{sets-placed}
-use Rattle.link_frame.specs.ControlBytes.{STX, ETX, DLE}
+use Rattle.link_frame.specs.ControlBytes.{ETX, DLE}
 use Rattle.link_frame.specs.Frame.{doubled, xorOver, checkByte, frameOf}
-use Rattle.link_frame.proofs.Doubling.{doubled-dle, doubled-other}
-use Rattle.link_frame.proofs.Framing.{check-byte, length-frame}
+use Rattle.link_frame.proofs.Doubling.{sent-dle, sent-other}
+use Rattle.link_frame.proofs.Check.{check-byte}
+use Rattle.link_frame.proofs.Framing.{length-frame}
 use Rattle.link_receive.specs.Receive.{Response, nothing, sends, delivers, at}
-use Rattle.link_receive.specs.declared.Dle.the-variants.{Seen, NotSeen}
-use Rattle.link_receive.specs.declared.Phase.the-variants.{Rest, Inside, Waiting}
+use Rattle.link_receive.specs.declared.Dle.the-variants.{NotSeen}
+use Rattle.link_receive.specs.declared.Phase.the-variants.{Rest, Inside}
 use Rattle.link_laws.specs.Feeding.{Fed, after, feed}
-use Rattle.link_laws.specs.RoundTrip.{frameAnswers, RoundTrip}
+use Rattle.link_laws.specs.RoundTrip.{RoundTrip}
 use Rattle.link_laws.proofs.Feeding.{fed-none, fed-stx, fed-data, fed-first, fed-second, fed-etx, fed-check}
 
 -- the doubled data is taken in, one place for each byte of the data
@@ -37,15 +38,15 @@ before : (r : Response) {f g : Fed} → f ≡ g → after (r ∷ []) f ≡ after
 before r e = ap (after (r ∷ [])) e
 
 more : (b : ℕ) (bs : List ℕ) → Taken bs → (v : Bool) → eqb b DLE ≡ v → Taken (b ∷ bs)
-unfolding xorOver
+unfolding doubled xorOver
 more b bs ih true e n c buf ts h k =
-    rw (doubled-dle b bs (eqb-true _ _ e), add-suc n (length bs), ← suc-add n (length bs), ← add-one n)
+    rw (sent-dle b (eqb-true _ _ e), add-suc n (length bs), ← suc-add n (length bs), ← add-one n)
     (fed-first n c buf _ (omega arith) (omega arith) b (eqb-true _ _ e)
     ∙ before nothing
     (fed-second n (bitXor c b) b buf _ (omega arith) (omega arith) (eqb-true _ _ e)
     ∙ before nothing (ih (n + 1) _ (set buf n b) ts (simp length-set (omega arith)) (omega arith))))
 more b bs ih false e n c buf ts h k =
-    rw (doubled-other b bs (eqb-false _ _ e), add-suc n (length bs), ← suc-add n (length bs), ← add-one n)
+    rw (sent-other b (eqb-false _ _ e), add-suc n (length bs), ← suc-add n (length bs), ← add-one n)
     (fed-data n c b buf _ (omega arith) (omega arith) (eqb-false _ _ e)
     ∙ before nothing (ih (n + 1) _ (set buf n b) ts (simp length-set (omega arith)) (omega arith)))
 

@@ -1,3 +1,5 @@
+-- `frame`: each return is a case of framing. The longest frame of the data is twice its length and three bytes more.
+-- Assumes nothing.
 use native.Mathlib.Omega.{arith}
 use mathlib.Core.Path.{sym, _∙_}
 use Rattle.link_frame.proofs.Doubling.{doubled-bound}

@@ -1,10 +1,13 @@
-use Prim.Native.Nat.{_≤_, _+_, _-_, _*_}
+-- `write_doubled`: what is done, and what is left from i on, make the whole: its length, its check and its stores.
+-- What is left falls. Assumes nothing.
+use Prim.Native.Nat.{_≤_, _+_, _-_}
 use mathlib.Core.Path.{_≡_, refl, sym, _∙_, ap}
 use native.Mathlib.Omega.{arith}
+use native.Mathlib.Numerals.{add-one}
 use lib.ListN.{length, drop, length-set}
 use lib.Seq.{sets}
 use Rattle.link_frame.specs.Frame.{doubled, xorOver}
-use Rattle.link_frame.proofs.Doubling.{Twice, Once, none-left, next-dle, next-other, length-one, length-two, xor-one, xor-two, sets-one, sets-two}
+use Rattle.link_frame.proofs.Doubling.{Twice, Once, none-left, next-dle, next-other, length-step, xor-step, sets-step}
 use Rattle.link_frame.proofs.write_doubled.Statement.{statement}
 use Rattle.link_frame.proofs.write_doubled.Tie as tie
 
@@ -39,47 +42,49 @@ add-i : tie.Need-add-i Inv-loop μ-loop
 add-i c = omega arith
 
 slice-write-out : tie.Need-slice-write-out Inv-loop μ-loop
-slice-write-out c = omega (arith, ap length (dle c))
+slice-write-out c = omega (arith, ap length (dle c .is))
 
 add-out : tie.Need-add-out Inv-loop μ-loop
-add-out c = omega (arith, ap length (dle c))
+add-out c = omega (arith, ap length (dle c .is))
 
 slice-write-out-2 : tie.Need-slice-write-out-2 Inv-loop μ-loop
-slice-write-out-2 c = simp length-set (omega (arith, ap length (dle c)))
+slice-write-out-2 c = simp length-set (omega (arith, ap length (dle c .is)))
 
 add-at : tie.Need-add-at Inv-loop μ-loop
-add-at c = omega (arith, ap length (dle c))
+add-at c = omega (arith, ap length (dle c .is))
 
 loop-less : tie.Need-loop-less Inv-loop μ-loop
 loop-less c = omega arith
 
 loop-again : tie.Need-loop-again Inv-loop μ-loop
+unfolding xorOver
 loop-again c =
     let v = c .before .before .before .loop in (
       omega arith,
       simp length-set (v .inv .1),
-      length-two (v .at) (dle c) (v .inv .2),
-      xor-two (v .check) (dle c) (v .inv .3),
-      sets-two (v .out) (v .at) (dle c) (v .inv .4),
+      length-step (dle c) (v .at) (v .inv .2),
+      xor-step (dle c) (v .check) (v .inv .3),
+      rw (add-one (v .at)) (sets-step (dle c) (v .out) (v .at) (v .inv .4)),
     )
 
 slice-write-out-3 : tie.Need-slice-write-out-3 Inv-loop μ-loop
-slice-write-out-3 c = omega (arith, ap length (other c))
+slice-write-out-3 c = omega (arith, ap length (other c .is))
 
 add-at-2 : tie.Need-add-at-2 Inv-loop μ-loop
-add-at-2 c = omega (arith, ap length (other c))
+add-at-2 c = omega (arith, ap length (other c .is))
 
 loop-less-2 : tie.Need-loop-less-2 Inv-loop μ-loop
 loop-less-2 c = omega arith
 
 loop-again-2 : tie.Need-loop-again-2 Inv-loop μ-loop
+unfolding xorOver
 loop-again-2 c =
     let v = c .before .before .before .loop in (
       omega arith,
       simp length-set (v .inv .1),
-      length-one (v .at) (other c) (v .inv .2),
-      xor-one (v .check) (other c) (v .inv .3),
-      sets-one (v .out) (v .at) (other c) (v .inv .4),
+      length-step (other c) (v .at) (v .inv .2),
+      xor-step (other c) (v .check) (v .inv .3),
+      sets-step (other c) (v .out) (v .at) (v .inv .4),
     )
 
 same-length : tie.Need-same-length Inv-loop μ-loop

@@ -1,3 +1,5 @@
+-- `write_frame`: three stores behind the doubled data make the frame.
+-- Assumes nothing.
 use lib.ListN.{length-set}
 use native.Mathlib.Omega.{arith}
 use Rattle.link_frame.proofs.Framing.{frame-written}
