@@ -3,12 +3,10 @@
 use Prim.Native.Nat.{ℕ, _+_}
 use native.Mathlib.Omega.{arith}
 use mathlib.Core.Path.{_≡_, refl}
-use mathlib.Core.Bool.{Bool, true, false}
 use mathlib.Core.List.{List}
 use lib.Dec.{eqb}
-use lib.ListN.{length, set, length-set}
+use lib.ListN.{set, length-set}
 use lib.Seq.{getD-set-other}
-use Rattle.base.specs.Choice.{pick}
 use Rattle.base.proofs.Choice.{pick-either}
 use Rattle.link_frame.specs.ControlBytes.{STX, ETX, DLE, NAK}
 use Rattle.link_receive.specs.Receive.{Response, nothing, sends, delivers, Reaction, Outcome, Storing, at, to, resting, noRoom, against, afterStore, byteOf, dataOf, eventOf, insideOf, receiveOf, restOf, storeOf, timerOf, waitingOf}

@@ -7,14 +7,14 @@ use native.Mathlib.Omega.{arith}
 use lib.Bits.{bitXor}
 use lib.ListN.{length, set}
 use Rattle.link_frame.specs.ControlBytes.{STX, ETX, DLE}
-use Rattle.link_receive.specs.Receive.{Outcome, Response, nothing, sends, delivers, at, to, with, afterStore, dataOf, byteOf, eventOf, receiveOf}
+use Rattle.link_receive.specs.Receive.{Reaction, Outcome, nothing, sends, delivers, at, to, with, afterStore, dataOf, byteOf, eventOf, receiveOf}
 use Rattle.link_receive.specs.declared.Dle.the-variants.{Seen, NotSeen}
 use Rattle.link_receive.specs.declared.LinkEvent.the-variants.{Byte}
 use Rattle.link_receive.specs.declared.LinkState.{LinkState}
 use Rattle.link_receive.specs.declared.Phase.the-variants.{Rest, Inside, Waiting}
 use Rattle.link_receive.proofs.Bounds.{store-room, receive-agrees}
 use Rattle.link_receive.proofs.Rows.{rest-stx, inside-dle, inside-data, seen-dle, seen-etx, right-check}
-use Rattle.link_laws.specs.Feeding.{Fed, after, feed}
+use Rattle.link_laws.specs.Feeding.{after, feed}
 
 pub fed-none : (s : LinkState) (buf : List ℕ) → feed s buf [] ≡ record { answers = []; state = s; buffer = buf }
 unfolding feed
@@ -39,7 +39,7 @@ stored n c b buf h k = rw (store-room n c b buf h k)
 
 pub fed-stx : (c : ℕ) (buf bs : List ℕ) → feed (at Rest 0 c) buf (STX ∷ bs) ≡ after (sends DLE ∷ []) (feed (at (Inside NotSeen) 0 0) buf bs)
 unfolding byteOf
-fed-stx c buf bs = fed _ _ _ bs (byte (at Rest 0 c) buf STX (omega arith) (omega arith) ∙ ap (λ (r : _). with r buf) (rest-stx STX refl))
+fed-stx c buf bs = fed _ _ _ bs (byte (at Rest 0 c) buf STX (omega arith) (omega arith) ∙ ap (λ (r : Reaction). with r buf) (rest-stx STX refl))
 
 module _ (n c b : ℕ) (buf bs : List ℕ) (h : n < length buf) (k : n < 1024) where
   -- a data byte that is no DLE
@@ -73,4 +73,4 @@ module _ (n c : ℕ) (buf bs : List ℕ) (h : n ≤ length buf) (k : n ≤ 1024)
 
   pub fed-check : feed (at Waiting n c) buf (c ∷ bs) ≡ after (delivers DLE n ∷ []) (feed (at Rest 0 0) buf bs)
   unfolding byteOf
-  fed-check = fed _ _ _ bs (byte (at Waiting n c) buf c h k ∙ ap (λ (r : _). with r buf) (right-check n c c refl))
+  fed-check = fed _ _ _ bs (byte (at Waiting n c) buf c h k ∙ ap (λ (r : Reaction). with r buf) (right-check n c c refl))

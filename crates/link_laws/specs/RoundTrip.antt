@@ -9,7 +9,7 @@ use Rattle.link_frame.specs.ControlBytes.{STX, DLE}
 use Rattle.link_frame.specs.Frame.{frameOf}
 use Rattle.link_receive.specs.Receive.{Response, nothing, sends, delivers, at}
 use Rattle.link_receive.specs.declared.Phase.the-variants.{Rest}
-use Rattle.link_laws.specs.Feeding.{Fed, feed}
+use Rattle.link_laws.specs.Feeding.{feed}
 
 -- the answers to STX and the frame of data: DLE; nothing for each byte between; DLE and the message for the check byte
 abbrev pub frameAnswers : List ℕ → List Response

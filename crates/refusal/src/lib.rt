@@ -3,11 +3,12 @@ ghost use mathlib.Core.Path.{_≡_};
 ghost use Rattle.refusal.specs.Numbers.{numberOf};
 
 pub enum Refusal {
-    // Own address, register table, link state or dry run set up wrongly.
+    // The own address is not 1 to 240, the register table has the wrong length, the link state is against its buffer, or
+    // the dry run is set up wrongly.
     Setup,
     // The header is cut short.
     HeaderCut,
-    // The function byte is not allowed here.
+    // The function byte is not allowed at this place.
     Function,
     // The extended count is not 2 to 32.
     ExtendedCount,
@@ -17,15 +18,15 @@ pub enum Refusal {
     Mark,
     // The body has the wrong length.
     BodyLength,
-    // A register does not exist.
+    // There is no such register.
     NoRegister,
-    // A register takes no write.
+    // The register takes no write.
     NoWrite,
-    // A written value is out of range.
+    // The written value is out of the register's range.
     ValueRange,
     // The output is too short.
     OutputShort,
-    // Data, telegram or run is too long.
+    // The data or the telegram is longer than 1,024 bytes, or a run longer than 255 registers.
     TooLong,
 }
 

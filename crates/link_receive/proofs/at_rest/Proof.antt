@@ -1,3 +1,5 @@
+-- `at_rest`: the rows at rest, for a byte.
+-- Assumes nothing.
 use borrow.Author.Needs.{needs}
 use mathlib.Core.Path.{sym, _∙_}
 use Rattle.link_receive.proofs.Rows.{rest-stx, rest-nak, rest-other}

@@ -1,3 +1,5 @@
+-- `data_byte`: what follows each answer of the store step.
+-- Assumes nothing.
 use borrow.Author.Needs.{needs}
 use Rattle.link_receive.specs.Receive.{dataOf, afterStore}
 use Rattle.link_receive.proofs.data_byte.Statement.{statement}

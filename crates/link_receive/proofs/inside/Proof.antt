@@ -1,6 +1,7 @@
+-- `inside`: the rows inside a block, for a byte.
+-- Assumes nothing.
 use borrow.Author.Needs.{needs}
-use mathlib.Core.Path.{_≡_, sym, _∙_}
-use Rattle.link_receive.specs.declared.Dle.the-variants.{Seen, NotSeen}
+use mathlib.Core.Path.{sym, _∙_}
 use Rattle.link_receive.proofs.Rows.{inside-dle, inside-data, seen-dle, seen-etx, seen-other}
 use Rattle.link_receive.proofs.inside.Statement.{statement}
 use Rattle.link_receive.proofs.inside.Tie as tie

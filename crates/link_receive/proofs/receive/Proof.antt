@@ -1,3 +1,5 @@
+-- `receive`: the two refusals, or the event.
+-- Assumes nothing.
 use borrow.Author.Needs.{needs}
 use mathlib.Core.Path.{_∙_, sym}
 use Rattle.link_receive.proofs.Bounds.{receive-beyond, receive-limit, receive-agrees}

@@ -1,3 +1,5 @@
+-- `store`: no room at the buffer's end, none at the limit, or the byte at the count.
+-- Assumes nothing.
 use borrow.Author.Needs.{needs}
 use mathlib.Core.Path.{sym}
 use Rattle.link_receive.proofs.Bounds.{store-full, store-limit, store-room}

@@ -1,3 +1,5 @@
+-- `take_event`: each phase with a byte, and with the timer.
+-- Assumes nothing.
 use borrow.Author.Needs.{needs}
 use mathlib.Core.Path.{_∙_}
 use Rattle.link_receive.specs.Receive.{eventOf, byteOf, timerOf}

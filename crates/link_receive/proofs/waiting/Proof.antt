@@ -1,3 +1,5 @@
+-- `waiting`: the rows for the check byte.
+-- Assumes nothing.
 use borrow.Author.Needs.{needs}
 use mathlib.Core.Path.{sym, _∙_}
 use Rattle.link_receive.proofs.Rows.{right-check, wrong-check}

@@ -1,3 +1,5 @@
+-- `is_unchanged` stays within the slice and ends.
+-- Assumes nothing.
 use Prim.Native.Nat.{_≤_, _-_}
 use lib.ListN.{length}
 use borrow.Author.Needs.{needs}

@@ -1,3 +1,5 @@
+-- `feed_bytes` stays within the bytes and ends.
+-- Assumes nothing.
 use Prim.Native.Nat.{_≤_, _-_}
 use mathlib.Core.Path.{_≡_}
 use lib.ListN.{length}

@@ -1,3 +1,5 @@
+-- `listen` keeps the lengths of its arrays and ends.
+-- Assumes nothing.
 use mathlib.Core.Path.{_≡_}
 use lib.ListN.{length}
 use borrow.Author.Needs.{needs}

@@ -1,3 +1,5 @@
+-- `line` stays within the slice and ends.
+-- Assumes nothing.
 use Prim.Native.Nat.{_≤_, _-_}
 use borrow.Author.Needs.{needs}
 use Rattle.run_cases.proofs.show.line.Statement.{statement}
