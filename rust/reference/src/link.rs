@@ -230,6 +230,11 @@ mod tests {
         0..=u8::MAX
     }
 
+    /// Counts that fit a buffer of three, with every check.
+    fn counts_and_checks() -> impl Iterator<Item = (usize, u8)> {
+        (0..=3).flat_map(|count| every_byte().map(move |check| (count, check)))
+    }
+
     fn every_event() -> impl Iterator<Item = Event> {
         every_byte().map(Event::Byte).chain([Event::Timer])
     }
@@ -381,13 +386,11 @@ mod tests {
 
     #[test]
     fn rest_stx_opens_a_block() {
-        for check in every_byte() {
-            for count in 0..=3 {
-                assert_eq!(
-                    step(rest(count, check), Event::Byte(0x02), 3),
-                    (Answer::Send(0x10), plain(0, 0))
-                );
-            }
+        for (count, check) in counts_and_checks() {
+            assert_eq!(
+                step(rest(count, check), Event::Byte(0x02), 3),
+                (Answer::Send(0x10), plain(0, 0))
+            );
         }
     }
 
@@ -468,13 +471,11 @@ mod tests {
 
     #[test]
     fn escaped_etx_closes_the_block() {
-        for check in every_byte() {
-            for count in 0..=3 {
-                assert_eq!(
-                    step(escaped(count, check), Event::Byte(0x03), 3),
-                    (Answer::Nothing, waiting(count, check ^ 0x03))
-                );
-            }
+        for (count, check) in counts_and_checks() {
+            assert_eq!(
+                step(escaped(count, check), Event::Byte(0x03), 3),
+                (Answer::Nothing, waiting(count, check ^ 0x03))
+            );
         }
     }
 
@@ -489,13 +490,11 @@ mod tests {
 
     #[test]
     fn waiting_right_check_gives_the_message() {
-        for check in every_byte() {
-            for count in 0..=3 {
-                assert_eq!(
-                    step(waiting(count, check), Event::Byte(check), 3),
-                    (Answer::Message(count), rest(0, 0))
-                );
-            }
+        for (count, check) in counts_and_checks() {
+            assert_eq!(
+                step(waiting(count, check), Event::Byte(check), 3),
+                (Answer::Message(count), rest(0, 0))
+            );
         }
     }
 
@@ -510,15 +509,13 @@ mod tests {
 
     #[test]
     fn timer_ends_an_open_block() {
-        for check in every_byte() {
-            for count in 0..=3 {
-                for state in [
-                    plain(count, check),
-                    escaped(count, check),
-                    waiting(count, check),
-                ] {
-                    assert_eq!(step(state, Event::Timer, 3), REJECTED);
-                }
+        for (count, check) in counts_and_checks() {
+            for state in [
+                plain(count, check),
+                escaped(count, check),
+                waiting(count, check),
+            ] {
+                assert_eq!(step(state, Event::Timer, 3), REJECTED);
             }
         }
     }
