@@ -1,20 +1,19 @@
--- The doubled data, byte by byte: what is done, and what is left from place i on.
+-- The doubled data from place i on: a byte and what is left behind it, or a part.
 -- Assumes nothing.
-use mathlib.Core.Path.{_≡_, ap, sym, _∙_}
+use mathlib.Core.Path.{_≡_, refl, ap, sym, _∙_}
 use mathlib.Core.Bool.{Bool, true, false}
-use mathlib.Core.List.{List, [], _∷_, _++_}
-use Prim.Native.Nat.{ℕ, _+_, _*_, _≤_, _<_}
+use mathlib.Core.List.{List, [], _∷_, _++_, append-assoc}
+use Prim.Native.Nat.{ℕ, _+_, _-_, _*_, _≤_, _<_}
 use native.Mathlib.Numerals.{add-one}
 use native.Mathlib.Omega.{arith}
 use borrow.Author.Tests.{eq-eqb, ne-eqb}
 use lib.Dec.{eqb}
-use lib.ListN.{length, drop, getD, length-append, drop-of-length-le}
-use lib.Seq.{drop-cons, sets}
+use lib.ListN.{length, take, drop, getD, length-append, take-append-drop, length-drop, drop-of-length-le}
+use lib.Seq.{drop-cons, drop-drop, take-all}
 use Rattle.base.specs.Choice.{pick}
-use Rattle.base.proofs.Places.{sets-append}
 use Rattle.link_frame.specs.ControlBytes.{DLE}
-use Rattle.link_frame.specs.Frame.{sent, doubled, xorOver}
-use Rattle.link_frame.proofs.Check.{xor-append}
+use Rattle.link_frame.specs.Frame.{sent, doubled}
+use Rattle.link_frame.proofs.Steps.{Splits}
 
 -- a DLE is sent twice, any other byte once
 module _ (b : ℕ) where
@@ -26,18 +25,24 @@ module _ (b : ℕ) where
   unfolding sent
   sent-other d = simp (ne-eqb _ _ d)
 
--- what is left at place i: the byte there as it is sent, and what is left behind it
-pub record Next (d : List ℕ) (i : ℕ) (s : List ℕ) : Type 0 where
-  pub is : doubled (drop i d) ≡ s ++ doubled (drop (i + 1) d)
+doubled-append : (xs ys : List ℕ) → doubled (xs ++ ys) ≡ doubled xs ++ doubled ys
+unfolding doubled
+doubled-append [] ys = refl
+doubled-append (x ∷ xs) ys = rw (doubled-append xs ys) (sym (append-assoc (sent x) (doubled xs) (doubled ys)))
 
+pub none-left : (d : List ℕ) (i : ℕ) → length d ≤ i → doubled (drop i d) ≡ []
+unfolding doubled
+none-left d i h = rw (drop-of-length-le d h)
+
+-- the byte at place i as it is sent
 abbrev pub Twice : List ℕ → ℕ → Type 0
-Twice d i = Next d i (getD d i 0 ∷ getD d i 0 ∷ [])
+Twice d i = Splits (doubled (drop i d)) (getD d i 0 ∷ getD d i 0 ∷ []) (doubled (drop (i + 1) d))
 
 abbrev pub Once : List ℕ → ℕ → Type 0
-Once d i = Next d i (getD d i 0 ∷ [])
+Once d i = Splits (doubled (drop i d)) (getD d i 0 ∷ []) (doubled (drop (i + 1) d))
 
 module _ (d : List ℕ) (i : ℕ) (h : i < length d) where
-  next : {s : List ℕ} → sent (getD d i 0) ≡ s → Next d i s
+  next : {s : List ℕ} → sent (getD d i 0) ≡ s → Splits (doubled (drop i d)) s (doubled (drop (i + 1) d))
   unfolding doubled
   next e = record { is = rw (drop-cons d i 0, add-one) (rw e) }
 
@@ -47,23 +52,32 @@ module _ (d : List ℕ) (i : ℕ) (h : i < length d) where
   pub next-other : (getD d i 0 ≡ DLE → ⊥) → Once d i
   next-other e = next (sent-other (getD d i 0) e)
 
-pub none-left : (d : List ℕ) (i : ℕ) → length d ≤ i → doubled (drop i d) ≡ []
-unfolding doubled
-none-left d i h = rw (drop-of-length-le d h)
+  pub next-byte : Splits (drop i d) (getD d i 0 ∷ []) (drop (i + 1) d)
+  next-byte = record { is = rw (drop-cons d i 0, add-one) }
 
--- what stays equal while a byte goes from what is left to what is done
-module _ {d : List ℕ} {i : ℕ} {s : List ℕ} (e : Next d i s) where
-  abbrev left : ℕ → List ℕ
-  left k = doubled (drop k d)
+-- the part from place i up to place e, and the last one
+pub next-part : (d : List ℕ) (i e : ℕ) → i ≤ e → Splits (doubled (drop i d)) (doubled (take (e - i) (drop i d))) (doubled (drop e d))
+next-part d i e h =
+    let k : i + (e - i) ≡ e = omega arith in
+    record {
+      is =
+          ap doubled (sym (take-append-drop (e - i) (drop i d)))
+          ∙ doubled-append (take (e - i) (drop i d)) _
+          ∙ rw (drop-drop (e - i) i d, k);
+    }
 
-  pub length-step : {t : ℕ} (n : ℕ) → n + length (left i) ≡ t → n + length s + length (left (i + 1)) ≡ t
-  length-step n k = omega (arith, ap length (e .is), length-append s (left (i + 1)))
+pub last-part : (d : List ℕ) (i : ℕ) → take (length d - i) (drop i d) ≡ drop i d
+last-part d i = take-all (length d - i) (drop i d) (simp length-drop (omega arith))
 
-  pub xor-step : {t : ℕ} (c : ℕ) → xorOver c (left i) ≡ t → xorOver (xorOver c s) (left (i + 1)) ≡ t
-  xor-step c k = sym (xor-append c s (left (i + 1))) ∙ sym (ap (xorOver c) (e .is)) ∙ k
+-- the data is sent as it is, if that holds of what is left from place i on
+abbrev pub Plain : List ℕ → ℕ → Type 0
+Plain d i = doubled (drop i d) ≡ drop i d → doubled d ≡ d
 
-  pub sets-step : {t : List ℕ} (o : List ℕ) (at : ℕ) → sets o at (left i) ≡ t → sets (sets o at s) (at + length s) (left (i + 1)) ≡ t
-  sets-step o at k = sym (sets-append o at s (left (i + 1))) ∙ sym (ap (sets o at) (e .is)) ∙ k
+pub plain-step : (d : List ℕ) (i : ℕ) → i < length d → (getD d i 0 ≡ DLE → ⊥) → Plain d i → Plain d (i + 1)
+plain-step d i h b p e = p (next-other d i h b .is ∙ ap (λ (l : List ℕ). getD d i 0 ∷ l) e ∙ sym (next-byte d i h .is))
+
+pub plain-end : (d : List ℕ) (i : ℕ) → length d ≤ i → Plain d i → doubled d ≡ d
+plain-end d i h p = p (none-left d i h ∙ sym (drop-of-length-le d h))
 
 -- the doubled data is at most twice as long
 sent-bound : (b : ℕ) (t : Bool) → length (pick t (b ∷ b ∷ []) (b ∷ [])) ≤ 2

@@ -1,6 +1,6 @@
 -- The frame as three stores after the doubled data, and each case of what framing gives.
 -- Assumes nothing.
-use mathlib.Core.Path.{_≡_}
+use mathlib.Core.Path.{_≡_, ap, _∙_}
 use mathlib.Core.List.{List}
 use Prim.Native.Nat.{ℕ, _+_, _≤_, _<_}
 use native.Mathlib.Nat.{zero-add}
@@ -15,6 +15,7 @@ use Rattle.base.proofs.Filling.{fitted-short, fitted-room}
 use Rattle.link_frame.proofs.Check.{check-byte}
 use Rattle.link_frame.specs.ControlBytes.{ETX, DLE}
 use Rattle.link_frame.specs.Frame.{doubled, xorOver, frameOf, framing, outcome}
+use Rattle.link_frame.specs.Writing.{Writing, writing}
 use Rattle.link_frame.specs.declared.FrameAnswer.the-variants.{Written}
 
 pub length-frame : (d : List ℕ) → length (frameOf d) ≡ length (doubled d) + 3
@@ -30,10 +31,12 @@ module _ (d out : List ℕ) where
   unfolding frameOf
   frame-stores = rw (sets-append out 0 (doubled d), check-byte d, zero-add, add-one, add-two)
 
-  pub frame-written : length (doubled d) + 3 ≤ length out →
-      outcome (Written (length (doubled d) + 3)) (closed (length (doubled d)) (xorOver 0 (doubled d)) (sets out 0 (doubled d)))
-      ≡ written (frameOf d) out
-  frame-written h = rw (frame-stores, ← length-frame d, sets-placed (frameOf d) out (rw length-frame h))
+  -- the three stores behind the doubled data make the frame
+  pub frame-written : {w : Writing} → w ≡ writing 0 0 (doubled d) out → length (doubled d) + 3 ≤ length out →
+      outcome (Written (w .at + 3)) (closed (w .at) (w .check) (w .output)) ≡ written (frameOf d) out
+  frame-written e h =
+      ap (λ (w : Writing). outcome (Written (w .at + 3)) (closed (w .at) (w .check) (w .output))) e
+      ∙ rw (zero-add (length (doubled d)), frame-stores, ← length-frame d, sets-placed (frameOf d) out (rw length-frame h))
 
   pub framing-long : 1024 < length d → framing d out ≡ denied 12 out
   unfolding framing

@@ -4,12 +4,13 @@ pub mod control;
 use control::DLE;
 use control::ETX;
 use refusal::Refusal;
+ghost use mathlib.Core.Bool.{true};
 ghost use mathlib.Core.Path.{_≡_};
 ghost use Prim.Native.Nat.{_+_, _≤_};
 ghost use lib.ListN.{length};
-ghost use lib.Seq.{sets};
 ghost use Rattle.base.specs.Filling.{written};
-ghost use Rattle.link_frame.specs.Frame.{doubled, xorOver, frameOf, framing, outcome};
+ghost use Rattle.link_frame.specs.Frame.{doubled, frameOf, framing, outcome};
+ghost use Rattle.link_frame.specs.Writing.{writing, writingOf};
 
 // What framing gives: the frame's length, or a refusal.
 pub enum FrameAnswer {
@@ -17,8 +18,8 @@ pub enum FrameAnswer {
     Refused(Refusal),
 }
 
-// Where writing stopped, and the exclusive or of what was written.
-struct Doubled {
+// Where writing stands: the next place, and the check over what was written.
+struct Progress {
     at: usize,
     check: u8,
 }
@@ -43,18 +44,50 @@ fn doubled_length(src: &[u8]) -> usize
     n
 }
 
-// Writes the data, each DLE doubled, to the first places of out.
-fn write_doubled(src: &[u8], out: &mut [u8]) -> Doubled
-    requires { ⌜ length (doubled (now src)) ≤ length (now out) ⌝ }
-    ensures { λ r. ⌜ r .at ≡ length (doubled (now (src .entry))) ⌝ }
-    ensures { λ r. ⌜ r .check ≡ xorOver 0 (doubled (now (src .entry))) ⌝ }
-    ensures { λ r. ⌜ now (out .exit) ≡ sets (now (out .entry)) 0 (doubled (now (src .entry))) ⌝ }
+// Whether a part of the data has no DLE in it, and so is sent as it is.
+fn has_no_dle(part: &[u8]) -> bool
+    ensures { λ r. ⌜ (r ≡ true → doubled (now (part .entry)) ≡ now (part .entry)) ⌝ }
 {
-    let mut at: usize = 0;
-    let mut check: u8 = 0;
+    let mut found = false;
     let mut i: usize = 0;
-    while i < src.len() {
-        let b = src[i];
+    while i < part.len() {
+        let b = part[i];
+        i += 1;
+        if b == DLE {
+            found = true;
+        }
+    }
+    !found
+}
+
+// Writes a part from place from on, as it is.
+fn write_plain(part: &[u8], out: &mut [u8], from: usize, start: u8) -> Progress
+    requires { ⌜ from + length (now part) ≤ length (now out) ⌝ }
+    ensures { λ r. ⌜ writingOf r (now (out .exit)) ≡ writing from start (now (part .entry)) (now (out .entry)) ⌝ }
+{
+    let mut at = from;
+    let mut check = start;
+    let mut i: usize = 0;
+    while i < part.len() {
+        let b = part[i];
+        i += 1;
+        out[at] = b;
+        at += 1;
+        check = check ^ b;
+    }
+    Progress { at, check }
+}
+
+// Writes a part from place from on, each DLE doubled.
+fn write_bytes(part: &[u8], out: &mut [u8], from: usize, start: u8) -> Progress
+    requires { ⌜ from + length (doubled (now part)) ≤ length (now out) ⌝ }
+    ensures { λ r. ⌜ writingOf r (now (out .exit)) ≡ writing from start (doubled (now (part .entry))) (now (out .entry)) ⌝ }
+{
+    let mut at = from;
+    let mut check = start;
+    let mut i: usize = 0;
+    while i < part.len() {
+        let b = part[i];
         i += 1;
         if b == DLE {
             out[at] = b;
@@ -67,7 +100,40 @@ fn write_doubled(src: &[u8], out: &mut [u8]) -> Doubled
             check = check ^ b;
         }
     }
-    Doubled { at, check }
+    Progress { at, check }
+}
+
+// The same. A part with no DLE needs no test of each byte, and is written faster.
+fn write_part(part: &[u8], out: &mut [u8], from: usize, start: u8) -> Progress
+    requires { ⌜ from + length (doubled (now part)) ≤ length (now out) ⌝ }
+    ensures { λ r. ⌜ writingOf r (now (out .exit)) ≡ writing from start (doubled (now (part .entry))) (now (out .entry)) ⌝ }
+{
+    if has_no_dle(part) {
+        return write_plain(part, &mut *out, from, start);
+    }
+    write_bytes(part, &mut *out, from, start)
+}
+
+// The length of a part.
+const PART: usize = 16;
+
+// Writes the data, each DLE doubled, to the first places of out, part by part.
+fn write_doubled(src: &[u8], out: &mut [u8]) -> Progress
+    requires { ⌜ length (doubled (now src)) ≤ length (now out) ⌝ }
+    ensures { λ r. ⌜ writingOf r (now (out .exit)) ≡ writing 0 0 (doubled (now (src .entry))) (now (out .entry)) ⌝ }
+{
+    let n = src.len();
+    let mut at: usize = 0;
+    let mut check: u8 = 0;
+    let mut i: usize = 0;
+    while PART <= n - i {
+        let end = i + PART;
+        let p = write_part(&src[i..end], &mut *out, at, check);
+        at = p.at;
+        check = p.check;
+        i = end;
+    }
+    write_bytes(&src[i..n], &mut *out, at, check)
 }
 
 // Writes the frame of the data, for which the output has room.
@@ -75,9 +141,9 @@ fn write_frame(src: &[u8], out: &mut [u8]) -> FrameAnswer
     requires { ⌜ length (doubled (now src)) + 3 ≤ length (now out) ⌝ }
     ensures { λ r. ⌜ outcome r (now (out .exit)) ≡ written (frameOf (now (src .entry))) (now (out .entry)) ⌝ }
 {
-    let d = write_doubled(src, &mut *out);
-    let at = d.at;
-    let check = d.check;
+    let p = write_doubled(src, &mut *out);
+    let at = p.at;
+    let check = p.check;
     out[at] = DLE;
     out[at + 1] = ETX;
     out[at + 2] = check ^ DLE ^ ETX;

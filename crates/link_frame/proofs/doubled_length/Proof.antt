@@ -5,7 +5,7 @@ use mathlib.Core.Path.{_≡_, ap}
 use native.Mathlib.Omega.{arith}
 use lib.ListN.{length, drop}
 use Rattle.link_frame.specs.Frame.{doubled}
-use Rattle.link_frame.proofs.Doubling.{none-left, next-dle, next-other, length-step}
+use Rattle.link_frame.proofs.Doubling.{none-left, next-dle, next-other}
 use Rattle.link_frame.proofs.doubled_length.Statement.{statement}
 use Rattle.link_frame.proofs.doubled_length.Tie as tie
 
@@ -35,7 +35,7 @@ loop-again : tie.Need-loop-again Inv-loop μ-loop
 loop-again c =
     let a = c .before .before .before in
     let e = next-dle (a .before .args .src .now) (a .loop .i) (c .before .before .loop-test .taken) (c .if1 .taken) in
-    (omega arith, omega arith, length-step e (a .loop .n) (a .loop .inv .2))
+    (omega arith, omega arith, omega (arith, ap length (e .is)))
 
 add-n-2 : tie.Need-add-n-2 Inv-loop μ-loop
 add-n-2 c = omega arith
@@ -47,7 +47,7 @@ loop-again-2 : tie.Need-loop-again-2 Inv-loop μ-loop
 loop-again-2 c =
     let a = c .before .before .before in
     let e = next-other (a .before .args .src .now) (a .loop .i) (c .before .before .loop-test .taken) (c .if1 .left) in
-    (omega arith, omega arith, length-step e (a .loop .n) (a .loop .inv .2))
+    (omega arith, omega arith, omega (arith, ap length (e .is)))
 
 returns : tie.Need-returns Inv-loop μ-loop
 returns c =

@@ -1,103 +1,87 @@
--- `write_doubled`: what is done, and what is left from i on, make the whole: its length, its check and its stores.
--- What is left falls. Assumes nothing.
+-- `write_doubled`: what is done, and what is left from i on, make the whole. What is left falls.
+-- Assumes nothing.
 use Prim.Native.Nat.{_≤_, _+_, _-_}
-use mathlib.Core.Path.{_≡_, refl, sym, _∙_, ap}
+use mathlib.Core.Path.{_≡_, refl, ap, _∙_}
 use native.Mathlib.Omega.{arith}
-use native.Mathlib.Numerals.{add-one}
-use lib.ListN.{length, drop, length-set}
-use lib.Seq.{sets}
-use Rattle.link_frame.specs.Frame.{doubled, xorOver}
-use Rattle.link_frame.proofs.Doubling.{Twice, Once, none-left, next-dle, next-other, length-step, xor-step, sets-step}
+use borrow.Author.Needs.{needs}
+use lib.ListN.{length, drop}
+use Rattle.link_frame.specs.Frame.{doubled}
+use Rattle.link_frame.specs.Writing.{Writing, writing}
+use Rattle.link_frame.proofs.Doubling.{next-part, last-part}
+use Rattle.link_frame.proofs.Steps.{writing-step, place}
 use Rattle.link_frame.proofs.write_doubled.Statement.{statement}
 use Rattle.link_frame.proofs.write_doubled.Tie as tie
 
 abbrev Inv-loop : tie.InvT-loop
-Inv-loop src out₀ at₀ check₀ i₀ out at check i =
-    (i ≤ length src) × (length out ≡ length out₀)
-    × (at + length (doubled (drop i src)) ≡ length (doubled src))
-    × (xorOver check (doubled (drop i src)) ≡ xorOver 0 (doubled src))
-    × (sets out at (doubled (drop i src)) ≡ sets out₀ 0 (doubled src))
+Inv-loop src out₀ n at₀ check₀ i₀ out at check i =
+    (n ≡ length src) × (i ≤ n) × (length out ≡ length out₀)
+    × (writing at check (doubled (drop i src)) out ≡ writing 0 0 (doubled src) out₀)
 
 abbrev μ-loop : tie.MeasureT-loop
-μ-loop src out₀ at₀ check₀ i₀ out at check i = length src - i
-
--- what is left at a DLE and at another byte
-dle : (c : tie.Then1 Inv-loop μ-loop) → Twice (c .before .before .before .before .args .src .now) (c .before .before .before .loop .i)
-dle c =
-    let a = c .before .before .before in
-    next-dle (a .before .args .src .now) (a .loop .i) (c .before .before .loop-test .taken) (c .if1 .taken)
-
-other : (c : tie.Else1 Inv-loop μ-loop) → Once (c .before .before .before .before .args .src .now) (c .before .before .before .loop .i)
-other c =
-    let a = c .before .before .before in
-    next-other (a .before .args .src .now) (a .loop .i) (c .before .before .loop-test .taken) (c .if1 .left)
+μ-loop src out₀ n at₀ check₀ i₀ out at check i = n - i
 
 loop-holds : tie.Need-loop-holds Inv-loop μ-loop
-loop-holds c = (omega arith, refl, omega arith, refl, refl)
+loop-holds c = (refl, omega arith, refl, refl)
 
-shared-slice-read-b : tie.Need-shared-slice-read-b Inv-loop μ-loop
-shared-slice-read-b c = omega arith
+sub-loop : tie.Need-sub-loop Inv-loop μ-loop
+sub-loop c = search needs
 
-add-i : tie.Need-add-i Inv-loop μ-loop
-add-i c = omega arith
+add-end : tie.Need-add-end Inv-loop μ-loop
+add-end c = search needs
 
-slice-write-out : tie.Need-slice-write-out Inv-loop μ-loop
-slice-write-out c = omega (arith, ap length (dle c .is))
+sub-write-part : tie.Need-sub-write-part Inv-loop μ-loop
+sub-write-part c = search needs
 
-add-out : tie.Need-add-out Inv-loop μ-loop
-add-out c = omega (arith, ap length (dle c .is))
+part-write-part-start : tie.Need-part-write-part-start Inv-loop μ-loop
+part-write-part-start c = search needs
 
-slice-write-out-2 : tie.Need-slice-write-out-2 Inv-loop μ-loop
-slice-write-out-2 c = simp length-set (omega (arith, ap length (dle c .is)))
+part-write-part-end : tie.Need-part-write-part-end Inv-loop μ-loop
+part-write-part-end c = search needs
 
-add-at : tie.Need-add-at Inv-loop μ-loop
-add-at c = omega (arith, ap length (dle c .is))
+write-part-requires : tie.Need-write-part-requires Inv-loop μ-loop
+write-part-requires c κs =
+    let v = c .before .before .before .loop in
+    let e = next-part (c .before .before .before .before .before .before .args .src .now) (v .i) (v .i + 16) (omega arith) in
+    omega (arith, place (writing-step e (v .at) (v .check) (v .out) (v .inv .3)))
 
 loop-less : tie.Need-loop-less Inv-loop μ-loop
-loop-less c = omega arith
+loop-less c = search needs
 
 loop-again : tie.Need-loop-again Inv-loop μ-loop
-unfolding xorOver
 loop-again c =
-    let v = c .before .before .before .loop in (
+    let v = c .before .before .before .before .before .before .loop in
+    let src = c .before .before .before .before .before .before .before .before .before .args .src .now in
+    let p = c .before .before .write-part in
+    let e = next-part src (v .i) (v .i + 16) (omega arith) in (
+      refl,
       omega arith,
-      simp length-set (v .inv .1),
-      length-step (dle c) (v .at) (v .inv .2),
-      xor-step (dle c) (v .check) (v .inv .3),
-      rw (add-one (v .at)) (sets-step (dle c) (v .out) (v .at) (v .inv .4)),
+      p .kept .1 .0 ∙ v .inv .2,
+      ap (λ (w : Writing). writing (w .at) (w .check) (doubled (drop (v .i + 16) src)) (w .output)) (p .ensures)
+          ∙ writing-step e (v .at) (v .check) (v .out) (v .inv .3),
     )
 
-slice-write-out-3 : tie.Need-slice-write-out-3 Inv-loop μ-loop
-slice-write-out-3 c = omega (arith, ap length (other c .is))
+sub-write-bytes : tie.Need-sub-write-bytes Inv-loop μ-loop
+sub-write-bytes c = search needs
 
-add-at-2 : tie.Need-add-at-2 Inv-loop μ-loop
-add-at-2 c = omega (arith, ap length (other c .is))
+part-write-bytes-start : tie.Need-part-write-bytes-start Inv-loop μ-loop
+part-write-bytes-start c = search needs
 
-loop-less-2 : tie.Need-loop-less-2 Inv-loop μ-loop
-loop-less-2 c = omega arith
+part-write-bytes-end : tie.Need-part-write-bytes-end Inv-loop μ-loop
+part-write-bytes-end c = search needs
 
-loop-again-2 : tie.Need-loop-again-2 Inv-loop μ-loop
-unfolding xorOver
-loop-again-2 c =
-    let v = c .before .before .before .loop in (
-      omega arith,
-      simp length-set (v .inv .1),
-      length-step (other c) (v .at) (v .inv .2),
-      xor-step (other c) (v .check) (v .inv .3),
-      sets-step (other c) (v .out) (v .at) (v .inv .4),
-    )
+write-bytes-requires : tie.Need-write-bytes-requires Inv-loop μ-loop
+write-bytes-requires c κs =
+    let v = c .before .before .before .loop in
+    rw (last-part (c .before .before .before .before .before .before .args .src .now) (v .i)) (omega (arith, place (v .inv .3)))
 
 same-length : tie.Need-same-length Inv-loop μ-loop
-same-length c = c .before .loop .inv .1
+same-length c = c .before .before .write-bytes .kept .1 .0 ∙ c .before .before .before .before .before .before .loop .inv .2
 
 returns : tie.Need-returns Inv-loop μ-loop
-unfolding xorOver
 returns c =
-    let v = c .before .loop in
-    let e = none-left (c .before .before .args .src .now) (v .i) (c .loop-test .left) in (
-      omega (arith, ap length e),
-      (sym (ap (xorOver (v .check)) e) ∙ v .inv .3, sym (ap (sets (v .out) (v .at)) e) ∙ v .inv .4),
-    )
+    let v = c .before .before .before .before .before .before .loop in
+    let src = c .before .before .before .before .before .before .before .before .before .args .src .now in
+    c .before .before .write-bytes .ensures ∙ rw (last-part src (v .i)) (v .inv .3)
 
 pub write-doubled-spec : {M : Type 1} → statement M
 write-doubled-spec =
@@ -106,17 +90,17 @@ write-doubled-spec =
     Inv-loop
     μ-loop
     loop-holds
-    shared-slice-read-b
-    add-i
-    slice-write-out
-    add-out
-    slice-write-out-2
-    add-at
+    sub-loop
+    add-end
+    sub-write-part
+    part-write-part-start
+    part-write-part-end
+    write-part-requires
     loop-less
     loop-again
-    slice-write-out-3
-    add-at-2
-    loop-less-2
-    loop-again-2
+    sub-write-bytes
+    part-write-bytes-start
+    part-write-bytes-end
+    write-bytes-requires
     same-length
     returns)
