@@ -1,18 +1,19 @@
 -- The doubled data from place i on: a byte and what is left behind it, or a part.
 -- Assumes nothing.
 use mathlib.Core.Path.{_≡_, refl, ap, sym, _∙_}
-use mathlib.Core.Bool.{Bool, true, false}
+use mathlib.Core.Bool.{Bool, true, false, _&&_, not, false≢true}
 use mathlib.Core.List.{List, [], _∷_, _++_, append-assoc}
 use Prim.Native.Nat.{ℕ, _+_, _-_, _*_, _≤_, _<_}
 use native.Mathlib.Numerals.{add-one}
 use native.Mathlib.Omega.{arith}
-use borrow.Author.Tests.{eq-eqb, ne-eqb}
+use borrow.Author.Tests.{eq-eqb, ne-eqb, eqb-false}
 use lib.Dec.{eqb}
 use lib.ListN.{length, take, drop, getD, length-append, take-append-drop, length-drop, drop-of-length-le}
 use lib.Seq.{drop-cons, drop-drop, take-all}
 use Rattle.base.specs.Choice.{pick}
 use Rattle.link_frame.specs.ControlBytes.{DLE}
 use Rattle.link_frame.specs.Frame.{sent, doubled}
+use Rattle.link_frame.specs.Writing.{noDle}
 use Rattle.link_frame.proofs.Steps.{Splits}
 
 -- a DLE is sent twice, any other byte once
@@ -69,15 +70,29 @@ next-part d i e h =
 pub last-part : (d : List ℕ) (i : ℕ) → take (length d - i) (drop i d) ≡ drop i d
 last-part d i = take-all (length d - i) (drop i d) (simp length-drop (omega arith))
 
--- the data is sent as it is, if that holds of what is left from place i on
-abbrev pub Plain : List ℕ → ℕ → Type 0
-Plain d i = doubled (drop i d) ≡ drop i d → doubled d ≡ d
+-- data with no DLE in it is sent as it is
+plain-first : (b : ℕ) (bs : List ℕ) (t : Bool) → eqb b DLE ≡ t → (noDle bs ≡ true → doubled bs ≡ bs) → not t && noDle bs ≡ true → sent b ++ doubled bs ≡ b ∷ bs
+plain-first b bs true e ih p = absurd (false≢true p)
+plain-first b bs false e ih p = rw (sent-other b (eqb-false b DLE e), ih p)
 
-pub plain-step : (d : List ℕ) (i : ℕ) → i < length d → (getD d i 0 ≡ DLE → ⊥) → Plain d i → Plain d (i + 1)
-plain-step d i h b p e = p (next-other d i h b .is ∙ ap (λ (l : List ℕ). getD d i 0 ∷ l) e ∙ sym (next-byte d i h .is))
+pub plain : (d : List ℕ) → noDle d ≡ true → doubled d ≡ d
+unfolding doubled noDle
+plain [] = λ p. refl
+plain (b ∷ bs) = plain-first b bs (eqb b DLE) refl (plain bs)
 
-pub plain-end : (d : List ℕ) (i : ℕ) → length d ≤ i → Plain d i → doubled d ≡ d
-plain-end d i h p = p (none-left d i h ∙ sym (drop-of-length-le d h))
+-- no DLE found so far: what is left decides
+module _ (d : List ℕ) (i : ℕ) where
+  pub no-dle-next : i < length d → (getD d i 0 ≡ DLE → ⊥) → noDle (drop i d) ≡ noDle (drop (i + 1) d)
+  unfolding noDle
+  no-dle-next h b = rw (drop-cons d i 0, add-one) (simp (ne-eqb _ _ b))
+
+  pub no-dle-found : i < length d → getD d i 0 ≡ DLE → noDle (drop i d) ≡ false
+  unfolding noDle
+  no-dle-found h b = rw (drop-cons d i 0) (simp (eq-eqb _ _ b))
+
+  pub no-dle-end : length d ≤ i → noDle (drop i d) ≡ true
+  unfolding noDle
+  no-dle-end h = rw (drop-of-length-le d h)
 
 -- the doubled data is at most twice as long
 sent-bound : (b : ℕ) (t : Bool) → length (pick t (b ∷ b ∷ []) (b ∷ [])) ≤ 2

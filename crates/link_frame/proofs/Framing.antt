@@ -1,7 +1,7 @@
 -- The frame as three stores after the doubled data, and each case of what framing gives.
 -- Assumes nothing.
 use mathlib.Core.Path.{_≡_, ap, _∙_}
-use mathlib.Core.List.{List}
+use mathlib.Core.List.{List, [], _∷_, _++_, append-assoc}
 use Prim.Native.Nat.{ℕ, _+_, _≤_, _<_}
 use native.Mathlib.Nat.{zero-add}
 use native.Mathlib.Numerals.{add-one, add-two}
@@ -14,13 +14,17 @@ use Rattle.base.proofs.Places.{sets-append, sets-placed}
 use Rattle.base.proofs.Filling.{fitted-short, fitted-room}
 use Rattle.link_frame.proofs.Check.{check-byte}
 use Rattle.link_frame.specs.ControlBytes.{ETX, DLE}
-use Rattle.link_frame.specs.Frame.{doubled, xorOver, frameOf, framing, outcome}
+use Rattle.link_frame.specs.Frame.{doubled, xorOver, checked, checkByte, frameOf, framing, fillingOf}
 use Rattle.link_frame.specs.Writing.{Writing, writing}
 use Rattle.link_frame.specs.declared.FrameAnswer.the-variants.{Written}
 
+-- the frame as the doubled data and three bytes more
+pub frame-bytes : (d : List ℕ) → frameOf d ≡ doubled d ++ (DLE ∷ ETX ∷ checkByte d ∷ [])
+unfolding frameOf checked
+frame-bytes d = append-assoc (doubled d) (DLE ∷ ETX ∷ []) (checkByte d ∷ [])
+
 pub length-frame : (d : List ℕ) → length (frameOf d) ≡ length (doubled d) + 3
-unfolding frameOf
-length-frame d = simp length-append
+length-frame d = rw (frame-bytes d) (simp length-append)
 
 -- what the stores of DLE, ETX and the check byte leave
 abbrev pub closed : ℕ → ℕ → List ℕ → List ℕ
@@ -28,14 +32,13 @@ closed n c l = set (set (set l n DLE) (n + 1) ETX) (n + 2) (bitXor (bitXor c DLE
 
 module _ (d out : List ℕ) where
   pub frame-stores : closed (length (doubled d)) (xorOver 0 (doubled d)) (sets out 0 (doubled d)) ≡ sets out 0 (frameOf d)
-  unfolding frameOf
-  frame-stores = rw (sets-append out 0 (doubled d), check-byte d, zero-add, add-one, add-two)
+  frame-stores = rw (frame-bytes d, sets-append out 0 (doubled d), check-byte d, zero-add, add-one, add-two)
 
   -- the three stores behind the doubled data make the frame
   pub frame-written : {w : Writing} → w ≡ writing 0 0 (doubled d) out → length (doubled d) + 3 ≤ length out →
-      outcome (Written (w .at + 3)) (closed (w .at) (w .check) (w .output)) ≡ written (frameOf d) out
+      fillingOf (Written (w .at + 3)) (closed (w .at) (w .check) (w .output)) ≡ written (frameOf d) out
   frame-written e h =
-      ap (λ (w : Writing). outcome (Written (w .at + 3)) (closed (w .at) (w .check) (w .output))) e
+      ap (λ (w : Writing). fillingOf (Written (w .at + 3)) (closed (w .at) (w .check) (w .output))) e
       ∙ rw (zero-add (length (doubled d)), frame-stores, ← length-frame d, sets-placed (frameOf d) out (rw length-frame h))
 
   pub framing-long : 1024 < length d → framing d out ≡ denied 12 out

@@ -26,13 +26,17 @@ unfoldable pub xorOver : ℕ → List ℕ → ℕ
 xorOver c [] = c
 xorOver c (b ∷ bs) = xorOver (bitXor c b) bs
 
--- the check byte: over every byte sent, from the first data byte to the ETX, doubled bytes twice
-unfoldable pub checkByte : List ℕ → ℕ
-checkByte d = xorOver 0 (doubled d ++ (DLE ∷ ETX ∷ []))
+-- what the check byte is taken over: the data as it is sent, then DLE ETX
+unfoldable pub checked : List ℕ → List ℕ
+checked d = doubled d ++ (DLE ∷ ETX ∷ [])
 
--- the data as it is sent, then DLE ETX, then the check byte, which is never doubled
+-- the check byte, which starts at 0 and has doubled bytes in it twice
+unfoldable pub checkByte : List ℕ → ℕ
+checkByte d = xorOver 0 (checked d)
+
+-- the frame: all that, then the check byte, which is never doubled
 unfoldable pub frameOf : List ℕ → List ℕ
-frameOf d = doubled d ++ (DLE ∷ ETX ∷ checkByte d ∷ [])
+frameOf d = checked d ++ (checkByte d ∷ [])
 
 -- an answer in numbers: the length that was filled, or the refusal's number
 abbrev pub givenOf : FrameAnswer → Given
@@ -40,9 +44,13 @@ givenOf (Written n) = filled n
 givenOf (Refused r) = refused (numberOf r)
 
 -- an answer, and the output after it
-abbrev pub outcome : FrameAnswer → List ℕ → Filling
-outcome r out = record { given = givenOf r; output = out }
+abbrev pub fillingOf : FrameAnswer → List ℕ → Filling
+fillingOf r out = record { given = givenOf r; output = out }
 
--- what framing gives and leaves: 12 for more than 1,024 bytes of data, then 11, else the frame in the first places
+-- the most bytes of data in one block
+abbrev pub maxData : ℕ
+maxData = 1024
+
+-- what framing gives and leaves: 12 for too much data, then 11, else the frame in the first places
 unfoldable pub framing : List ℕ → List ℕ → Filling
-framing d out = pick (ltb 1024 (length d)) (denied 12 out) (fitted (frameOf d) out)
+framing d out = pick (ltb maxData (length d)) (denied 12 out) (fitted (frameOf d) out)

@@ -4,13 +4,15 @@ pub mod control;
 use control::DLE;
 use control::ETX;
 use refusal::Refusal;
-ghost use mathlib.Core.Bool.{true};
 ghost use mathlib.Core.Path.{_≡_};
 ghost use Prim.Native.Nat.{_+_, _≤_};
 ghost use lib.ListN.{length};
 ghost use Rattle.base.specs.Filling.{written};
-ghost use Rattle.link_frame.specs.Frame.{doubled, frameOf, framing, outcome};
-ghost use Rattle.link_frame.specs.Writing.{writing, writingOf};
+ghost use Rattle.link_frame.specs.Frame.{doubled, frameOf, framing, fillingOf};
+ghost use Rattle.link_frame.specs.Writing.{noDle, writing, writingOf};
+
+// The most bytes of data in one block.
+pub const MAX_DATA: usize = 1024;
 
 // What framing gives: the frame's length, or a refusal.
 pub enum FrameAnswer {
@@ -44,9 +46,9 @@ fn doubled_length(src: &[u8]) -> usize
     n
 }
 
-// Whether a part of the data has no DLE in it, and so is sent as it is.
+// Whether a part of the data has no DLE in it.
 fn has_no_dle(part: &[u8]) -> bool
-    ensures { λ r. ⌜ (r ≡ true → doubled (now (part .entry)) ≡ now (part .entry)) ⌝ }
+    ensures { λ r. ⌜ r ≡ noDle (now (part .entry)) ⌝ }
 {
     let mut found = false;
     let mut i: usize = 0;
@@ -60,7 +62,7 @@ fn has_no_dle(part: &[u8]) -> bool
     !found
 }
 
-// Writes a part from place from on, as it is.
+// Writes a part as it is, its first byte at place from; start is the check before it.
 fn write_plain(part: &[u8], out: &mut [u8], from: usize, start: u8) -> Progress
     requires { ⌜ from + length (now part) ≤ length (now out) ⌝ }
     ensures { λ r. ⌜ writingOf r (now (out .exit)) ≡ writing from start (now (part .entry)) (now (out .entry)) ⌝ }
@@ -78,8 +80,8 @@ fn write_plain(part: &[u8], out: &mut [u8], from: usize, start: u8) -> Progress
     Progress { at, check }
 }
 
-// Writes a part from place from on, each DLE doubled.
-fn write_bytes(part: &[u8], out: &mut [u8], from: usize, start: u8) -> Progress
+// Writes a part with each DLE doubled, its first byte at place from; start is the check before it.
+fn write_doubling(part: &[u8], out: &mut [u8], from: usize, start: u8) -> Progress
     requires { ⌜ from + length (doubled (now part)) ≤ length (now out) ⌝ }
     ensures { λ r. ⌜ writingOf r (now (out .exit)) ≡ writing from start (doubled (now (part .entry))) (now (out .entry)) ⌝ }
 {
@@ -103,7 +105,7 @@ fn write_bytes(part: &[u8], out: &mut [u8], from: usize, start: u8) -> Progress
     Progress { at, check }
 }
 
-// The same. A part with no DLE needs no test of each byte, and is written faster.
+// Writes a part with each DLE doubled. One that has none is written as it is, which is faster.
 fn write_part(part: &[u8], out: &mut [u8], from: usize, start: u8) -> Progress
     requires { ⌜ from + length (doubled (now part)) ≤ length (now out) ⌝ }
     ensures { λ r. ⌜ writingOf r (now (out .exit)) ≡ writing from start (doubled (now (part .entry))) (now (out .entry)) ⌝ }
@@ -111,7 +113,7 @@ fn write_part(part: &[u8], out: &mut [u8], from: usize, start: u8) -> Progress
     if has_no_dle(part) {
         return write_plain(part, &mut *out, from, start);
     }
-    write_bytes(part, &mut *out, from, start)
+    write_doubling(part, &mut *out, from, start)
 }
 
 // The length of a part.
@@ -133,13 +135,13 @@ fn write_doubled(src: &[u8], out: &mut [u8]) -> Progress
         check = p.check;
         i = end;
     }
-    write_bytes(&src[i..n], &mut *out, at, check)
+    write_doubling(&src[i..n], &mut *out, at, check)
 }
 
 // Writes the frame of the data, for which the output has room.
 fn write_frame(src: &[u8], out: &mut [u8]) -> FrameAnswer
     requires { ⌜ length (doubled (now src)) + 3 ≤ length (now out) ⌝ }
-    ensures { λ r. ⌜ outcome r (now (out .exit)) ≡ written (frameOf (now (src .entry))) (now (out .entry)) ⌝ }
+    ensures { λ r. ⌜ fillingOf r (now (out .exit)) ≡ written (frameOf (now (src .entry))) (now (out .entry)) ⌝ }
 {
     let p = write_doubled(src, &mut *out);
     let at = p.at;
@@ -151,12 +153,12 @@ fn write_frame(src: &[u8], out: &mut [u8]) -> FrameAnswer
 }
 
 // The frame of the data in the first places of out, and its length; the other places keep their values.
-// Refused, and out as it was: 12 for more than 1,024 bytes of data, then 11 for an output that is too short.
+// Refused, and out as it was: 12 for more than MAX_DATA bytes of data, then 11 for an output that is too short.
 pub fn frame(src: &[u8], out: &mut [u8]) -> FrameAnswer
-    ensures { λ r. ⌜ outcome r (now (out .exit)) ≡ framing (now (src .entry)) (now (out .entry)) ⌝ }
+    ensures { λ r. ⌜ fillingOf r (now (out .exit)) ≡ framing (now (src .entry)) (now (out .entry)) ⌝ }
 {
     let n = src.len();
-    if 1024 < n {
+    if MAX_DATA < n {
         return FrameAnswer::Refused(Refusal::TooLong);
     }
     // The longest frame fits: no need to count first.

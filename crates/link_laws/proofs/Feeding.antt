@@ -49,7 +49,9 @@ module _ (n c b : ℕ) (buf bs : List ℕ) (h : n < length buf) (k : n < 1024) w
   unfolding byteOf
   fed-data d =
       fed _ _ _ bs
-      (byte (at (Inside NotSeen) n c) buf b (omega arith) (omega arith) ∙ inside-data n c b buf d ∙ stored n (bitXor c b) b buf h k)
+      (byte (at (Inside NotSeen) n c) buf b (omega arith) (omega arith)
+      ∙ inside-data n (bitXor c b) b buf d
+      ∙ stored n (bitXor c b) b buf h k)
 
   -- the second DLE of a pair
   pub fed-second : b ≡ DLE →
@@ -58,18 +60,20 @@ module _ (n c b : ℕ) (buf bs : List ℕ) (h : n < length buf) (k : n < 1024) w
   unfolding byteOf
   fed-second d =
       fed _ _ _ bs
-      (byte (at (Inside Seen) n c) buf b (omega arith) (omega arith) ∙ seen-dle n c b buf d ∙ stored n (bitXor c b) b buf h k)
+      (byte (at (Inside Seen) n c) buf b (omega arith) (omega arith)
+      ∙ seen-dle n (bitXor c b) b buf d
+      ∙ stored n (bitXor c b) b buf h k)
 
 module _ (n c : ℕ) (buf bs : List ℕ) (h : n ≤ length buf) (k : n ≤ 1024) where
   -- the first DLE of a pair
   pub fed-first : (b : ℕ) → b ≡ DLE →
       feed (at (Inside NotSeen) n c) buf (b ∷ bs) ≡ after (nothing ∷ []) (feed (at (Inside Seen) n (bitXor c b)) buf bs)
   unfolding byteOf
-  fed-first b d = fed _ _ _ bs (byte (at (Inside NotSeen) n c) buf b h k ∙ inside-dle n c b buf d)
+  fed-first b d = fed _ _ _ bs (byte (at (Inside NotSeen) n c) buf b h k ∙ inside-dle n (bitXor c b) b buf d)
 
   pub fed-etx : feed (at (Inside Seen) n c) buf (ETX ∷ bs) ≡ after (nothing ∷ []) (feed (at Waiting n (bitXor c ETX)) buf bs)
   unfolding byteOf
-  fed-etx = fed _ _ _ bs (byte (at (Inside Seen) n c) buf ETX h k ∙ seen-etx n c ETX buf refl)
+  fed-etx = fed _ _ _ bs (byte (at (Inside Seen) n c) buf ETX h k ∙ seen-etx n (bitXor c ETX) ETX buf refl)
 
   pub fed-check : feed (at Waiting n c) buf (c ∷ bs) ≡ after (delivers DLE n ∷ []) (feed (at Rest 0 0) buf bs)
   unfolding byteOf

@@ -18,7 +18,7 @@ use Rattle.link_frame.specs.ControlBytes.{ETX, DLE}
 use Rattle.link_frame.specs.Frame.{doubled, xorOver, checkByte, frameOf}
 use Rattle.link_frame.proofs.Doubling.{sent-dle, sent-other}
 use Rattle.link_frame.proofs.Check.{check-byte}
-use Rattle.link_frame.proofs.Framing.{length-frame}
+use Rattle.link_frame.proofs.Framing.{frame-bytes, length-frame}
 use Rattle.link_receive.specs.Receive.{Response, nothing, sends, delivers, at}
 use Rattle.link_receive.specs.declared.Dle.the-variants.{NotSeen}
 use Rattle.link_receive.specs.declared.Phase.the-variants.{Rest, Inside}
@@ -72,18 +72,18 @@ two-more n m rs e =
     ∙ ap (λ (l : List Response). l ++ rs) (replicate-append-replicate n 2 nothing))
 
 -- the end of the frame, after data that is taken in
-closed : (d buf : List ℕ) → length d ≤ length buf → length d ≤ 1024 →
+closing : (d buf : List ℕ) → length d ≤ length buf → length d ≤ 1024 →
     feed (at (Inside NotSeen) (0 + length d) (xorOver 0 (doubled d))) (sets buf 0 d) (DLE ∷ ETX ∷ checkByte d ∷ [])
     ≡ record { answers = nothing ∷ nothing ∷ delivers DLE (length d) ∷ []; state = at Rest 0 0; buffer = placed d buf }
-closed d buf h k =
+closing d buf h k =
     rw (zero-add (length d), check-byte d, ← sets-placed d buf h) (ended (length d) _ (sets buf 0 d) (simp length-sets h) k)
 
 pub round-trip : RoundTrip
-unfolding frameOf
 round-trip d buf c k h =
     fed-stx c buf (frameOf d)
     ∙ before (sends DLE)
-    (taken d 0 0 buf _ (omega arith) (omega arith)
-    ∙ ap (after (replicate (length (doubled d)) nothing)) (closed d buf h k)
+    (ap (feed (at (Inside NotSeen) 0 0) buf) (frame-bytes d)
+    ∙ taken d 0 0 buf _ (omega arith) (omega arith)
+    ∙ ap (after (replicate (length (doubled d)) nothing)) (closing d buf h k)
     ∙ ap (λ (rs : List Response). record { answers = rs; state = at Rest 0 0; buffer = placed d buf })
     (two-more (length (doubled d)) (length (frameOf d) - 1) (delivers DLE (length d) ∷ []) (omega (arith, length-frame d))))

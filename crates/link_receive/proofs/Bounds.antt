@@ -5,7 +5,7 @@ use mathlib.Core.List.{List}
 use Prim.Native.Nat.{ℕ, _+_, _≤_, _<_}
 use borrow.Author.Tests.{le-leb, lt-leb, lt-ltb, le-ltb}
 use lib.ListN.{length, set}
-use Rattle.link_receive.specs.Receive.{at, to, with, refused, storing, noRoom, storeOf, against, eventOf, receiveOf}
+use Rattle.link_receive.specs.Receive.{at, to, with, refuses, storing, noRoom, storeOf, against, eventOf, receiveOf}
 use Rattle.link_receive.specs.declared.Dle.the-variants.{NotSeen}
 use Rattle.link_receive.specs.declared.LinkEvent.{LinkEvent}
 use Rattle.link_receive.specs.declared.LinkState.{LinkState}
@@ -26,11 +26,11 @@ module _ (n c b : ℕ) (buf : List ℕ) where
   store-room h k = simp (lt-leb _ _ h, lt-leb _ _ k)
 
 module _ (s : LinkState) (e : LinkEvent) (buf : List ℕ) where
-  pub receive-beyond : length buf < s .count → receiveOf s e buf ≡ with (to (refused 1) s) buf
+  pub receive-beyond : length buf < s .count → receiveOf s e buf ≡ with (to (refuses 1) s) buf
   unfolding receiveOf against
   receive-beyond h = simp (lt-ltb _ _ h)
 
-  pub receive-limit : s .count ≤ length buf → 1024 < s .count → receiveOf s e buf ≡ with (to (refused 1) s) buf
+  pub receive-limit : s .count ≤ length buf → 1024 < s .count → receiveOf s e buf ≡ with (to (refuses 1) s) buf
   unfolding receiveOf against
   receive-limit h k = simp (le-ltb _ _ h, lt-ltb _ _ k)
 

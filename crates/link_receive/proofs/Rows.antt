@@ -5,7 +5,6 @@ use mathlib.Core.List.{List}
 use Prim.Native.Nat.{ℕ}
 use native.Mathlib.Omega.{arith}
 use borrow.Author.Tests.{eq-eqb, ne-eqb}
-use lib.Bits.{bitXor}
 use Rattle.link_frame.specs.ControlBytes.{STX, ETX, DLE, NAK}
 use Rattle.link_receive.specs.Receive.{nothing, sends, delivers, at, to, with, resting, restOf, dataOf, insideOf, waitingOf}
 use Rattle.link_receive.specs.declared.Dle.the-variants.{Seen, NotSeen}
@@ -25,19 +24,19 @@ module _ (b : ℕ) where
   rest-other s n = simp (ne-eqb _ _ s, ne-eqb _ _ n)
 
 module _ (n c b : ℕ) (buf : List ℕ) where
-  pub inside-dle : b ≡ DLE → insideOf NotSeen n c b buf ≡ with (to nothing (at (Inside Seen) n (bitXor c b))) buf
+  pub inside-dle : b ≡ DLE → insideOf NotSeen n c b buf ≡ with (to nothing (at (Inside Seen) n c)) buf
   unfolding insideOf
   inside-dle e = simp (eq-eqb _ _ e)
 
-  pub inside-data : (b ≡ DLE → ⊥) → insideOf NotSeen n c b buf ≡ dataOf n (bitXor c b) b buf
+  pub inside-data : (b ≡ DLE → ⊥) → insideOf NotSeen n c b buf ≡ dataOf n c b buf
   unfolding insideOf
   inside-data d = simp (ne-eqb _ _ d)
 
-  pub seen-dle : b ≡ DLE → insideOf Seen n c b buf ≡ dataOf n (bitXor c b) b buf
+  pub seen-dle : b ≡ DLE → insideOf Seen n c b buf ≡ dataOf n c b buf
   unfolding insideOf
   seen-dle e = simp (eq-eqb _ _ e)
 
-  pub seen-etx : b ≡ ETX → insideOf Seen n c b buf ≡ with (to nothing (at Waiting n (bitXor c b))) buf
+  pub seen-etx : b ≡ ETX → insideOf Seen n c b buf ≡ with (to nothing (at Waiting n c)) buf
   unfolding insideOf
   seen-etx e = simp (ne-eqb b DLE (omega arith), eq-eqb _ _ e)
 

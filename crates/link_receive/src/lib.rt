@@ -1,13 +1,15 @@
 // The receiving half of 3964R, fed one event at a time.
+use link_frame::MAX_DATA;
 use link_frame::control::DLE;
 use link_frame::control::ETX;
 use link_frame::control::NAK;
 use link_frame::control::STX;
 use refusal::Refusal;
 ghost use mathlib.Core.Path.{_≡_};
-ghost use Rattle.link_receive.specs.Receive.{reactionOf, outcome, storing, resting, restOf, storeOf, dataOf, insideOf, waitingOf, eventOf, receiveOf, responseOf};
+ghost use Rattle.link_receive.specs.Receive.{responseOf, reactionOf, outcomeOf, refuses, at, to, resting, restOf, storing, storeOf, dataOf, insideOf, waitingOf, eventOf, receiveOf};
+ghost use Rattle.link_receive.specs.declared.Phase.the-variants.{Rest};
 
-// Whether the byte before was a DLE that opened a pair.
+// Whether the byte before was a DLE that the next byte decides on.
 pub enum Dle {
     Seen,
     NotSeen,
@@ -25,6 +27,19 @@ pub struct LinkState {
     pub count: usize,
     pub check: u8,
     pub phase: Phase,
+}
+
+impl LinkState {
+    // A half at rest, as it begins and as it is after each block.
+    pub fn at_rest() -> Self
+        ensures { λ r. ⌜ r ≡ at Rest 0 0 ⌝ }
+    {
+        Self {
+            count: 0,
+            check: 0,
+            phase: Phase::Rest,
+        }
+    }
 }
 
 // A byte came, or the timer ran out.
@@ -59,16 +74,12 @@ fn rest(answer: LinkAnswer) -> LinkStep
 {
     LinkStep {
         answer,
-        state: LinkState {
-            count: 0,
-            check: 0,
-            phase: Phase::Rest,
-        },
+        state: LinkState::at_rest(),
     }
 }
 
 // A byte at rest.
-fn at_rest(b: u8) -> LinkStep
+fn rest_byte(b: u8) -> LinkStep
     ensures { λ r. ⌜ reactionOf r ≡ restOf b ⌝ }
 {
     if b == STX {
@@ -94,7 +105,7 @@ fn store(count: usize, check: u8, b: u8, buffer: &mut [u8]) -> Stored
     if buffer.len() <= count {
         return Stored::NoRoom;
     }
-    if 1024 <= count {
+    if MAX_DATA <= count {
         return Stored::NoRoom;
     }
     buffer[count] = b;
@@ -107,7 +118,7 @@ fn store(count: usize, check: u8, b: u8, buffer: &mut [u8]) -> Stored
 
 // A data byte inside a block: stored, or NAK where there is no room.
 fn data_byte(count: usize, check: u8, b: u8, buffer: &mut [u8]) -> LinkStep
-    ensures { λ r. ⌜ outcome r (now (buffer .exit)) ≡ dataOf count check b (now (buffer .entry)) ⌝ }
+    ensures { λ r. ⌜ outcomeOf r (now (buffer .exit)) ≡ dataOf count check b (now (buffer .entry)) ⌝ }
 {
     let Stored::Kept(state) = store(count, check, b, &mut *buffer) else {
         return rest(LinkAnswer::Send(NAK));
@@ -118,11 +129,10 @@ fn data_byte(count: usize, check: u8, b: u8, buffer: &mut [u8]) -> LinkStep
     }
 }
 
-// A byte inside a block.
-fn inside(dle: Dle, count: usize, check: u8, b: u8, buffer: &mut [u8]) -> LinkStep
-    ensures { λ r. ⌜ outcome r (now (buffer .exit)) ≡ insideOf dle count check b (now (buffer .entry)) ⌝ }
+// A byte inside a block, already in the check.
+fn inside_byte(dle: Dle, count: usize, check: u8, b: u8, buffer: &mut [u8]) -> LinkStep
+    ensures { λ r. ⌜ outcomeOf r (now (buffer .exit)) ≡ insideOf dle count check b (now (buffer .entry)) ⌝ }
 {
-    let next = check ^ b;
     match dle {
         Dle::NotSeen => {
             if b == DLE {
@@ -130,23 +140,23 @@ fn inside(dle: Dle, count: usize, check: u8, b: u8, buffer: &mut [u8]) -> LinkSt
                     answer: LinkAnswer::Nothing,
                     state: LinkState {
                         count,
-                        check: next,
+                        check,
                         phase: Phase::Inside(Dle::Seen),
                     },
                 };
             }
-            data_byte(count, next, b, &mut *buffer)
+            data_byte(count, check, b, &mut *buffer)
         }
         Dle::Seen => {
             if b == DLE {
-                return data_byte(count, next, b, &mut *buffer);
+                return data_byte(count, check, b, &mut *buffer);
             }
             if b == ETX {
                 return LinkStep {
                     answer: LinkAnswer::Nothing,
                     state: LinkState {
                         count,
-                        check: next,
+                        check,
                         phase: Phase::Waiting,
                     },
                 };
@@ -157,7 +167,7 @@ fn inside(dle: Dle, count: usize, check: u8, b: u8, buffer: &mut [u8]) -> LinkSt
 }
 
 // The byte after DLE ETX.
-fn waiting(count: usize, check: u8, b: u8) -> LinkStep
+fn waiting_byte(count: usize, check: u8, b: u8) -> LinkStep
     ensures { λ r. ⌜ reactionOf r ≡ waitingOf count check b ⌝ }
 {
     if b == check {
@@ -166,18 +176,18 @@ fn waiting(count: usize, check: u8, b: u8) -> LinkStep
     rest(LinkAnswer::Send(NAK))
 }
 
-// One event, at a state that agrees with its buffer.
+// One event, whatever the count.
 fn take_event(state: LinkState, event: LinkEvent, buffer: &mut [u8]) -> LinkStep
-    ensures { λ r. ⌜ outcome r (now (buffer .exit)) ≡ eventOf event state (now (buffer .entry)) ⌝ }
+    ensures { λ r. ⌜ outcomeOf r (now (buffer .exit)) ≡ eventOf event state (now (buffer .entry)) ⌝ }
 {
     let count = state.count;
     let check = state.check;
     let phase = state.phase;
     match event {
         LinkEvent::Byte(b) => match phase {
-            Phase::Rest => at_rest(b),
-            Phase::Inside(dle) => inside(dle, count, check, b, &mut *buffer),
-            Phase::Waiting => waiting(count, check, b),
+            Phase::Rest => rest_byte(b),
+            Phase::Inside(dle) => inside_byte(dle, count, check ^ b, b, &mut *buffer),
+            Phase::Waiting => waiting_byte(count, check, b),
         },
         LinkEvent::Timer => match phase {
             Phase::Rest => rest(LinkAnswer::Nothing),
@@ -187,23 +197,27 @@ fn take_event(state: LinkState, event: LinkEvent, buffer: &mut [u8]) -> LinkStep
     }
 }
 
+// A state against its buffer is refused and kept.
+fn refuse(state: LinkState) -> LinkStep
+    ensures { λ r. ⌜ reactionOf r ≡ to (refuses 1) state ⌝ }
+{
+    LinkStep {
+        answer: LinkAnswer::Refused(Refusal::Setup),
+        state,
+    }
+}
+
 // One event: its answer and the state after it. It writes at most the place of the buffer at the count.
-// A state whose count exceeds the buffer's length or 1,024 is refused with 1, state and buffer as they were.
+// Refused with 1, and all as it was: a count beyond the buffer's length or MAX_DATA.
 pub fn receive(state: LinkState, event: LinkEvent, buffer: &mut [u8]) -> LinkStep
-    ensures { λ r. ⌜ outcome r (now (buffer .exit)) ≡ receiveOf state event (now (buffer .entry)) ⌝ }
+    ensures { λ r. ⌜ outcomeOf r (now (buffer .exit)) ≡ receiveOf state event (now (buffer .entry)) ⌝ }
 {
     let count = state.count;
     if buffer.len() < count {
-        return LinkStep {
-            answer: LinkAnswer::Refused(Refusal::Setup),
-            state,
-        };
+        return refuse(state);
     }
-    if 1024 < count {
-        return LinkStep {
-            answer: LinkAnswer::Refused(Refusal::Setup),
-            state,
-        };
+    if MAX_DATA < count {
+        return refuse(state);
     }
     take_event(state, event, &mut *buffer)
 }

@@ -60,28 +60,28 @@ loop-again c =
           ∙ writing-step e (v .at) (v .check) (v .out) (v .inv .3),
     )
 
-sub-write-bytes : tie.Need-sub-write-bytes Inv-loop μ-loop
-sub-write-bytes c = search needs
+sub-write-doubling : tie.Need-sub-write-doubling Inv-loop μ-loop
+sub-write-doubling c = search needs
 
-part-write-bytes-start : tie.Need-part-write-bytes-start Inv-loop μ-loop
-part-write-bytes-start c = search needs
+part-write-doubling-start : tie.Need-part-write-doubling-start Inv-loop μ-loop
+part-write-doubling-start c = search needs
 
-part-write-bytes-end : tie.Need-part-write-bytes-end Inv-loop μ-loop
-part-write-bytes-end c = search needs
+part-write-doubling-end : tie.Need-part-write-doubling-end Inv-loop μ-loop
+part-write-doubling-end c = search needs
 
-write-bytes-requires : tie.Need-write-bytes-requires Inv-loop μ-loop
-write-bytes-requires c κs =
+write-doubling-requires : tie.Need-write-doubling-requires Inv-loop μ-loop
+write-doubling-requires c κs =
     let v = c .before .before .before .loop in
     rw (last-part (c .before .before .before .before .before .before .args .src .now) (v .i)) (omega (arith, place (v .inv .3)))
 
 same-length : tie.Need-same-length Inv-loop μ-loop
-same-length c = c .before .before .write-bytes .kept .1 .0 ∙ c .before .before .before .before .before .before .loop .inv .2
+same-length c = c .before .before .write-doubling .kept .1 .0 ∙ c .before .before .before .before .before .before .loop .inv .2
 
 returns : tie.Need-returns Inv-loop μ-loop
 returns c =
     let v = c .before .before .before .before .before .before .loop in
     let src = c .before .before .before .before .before .before .before .before .before .args .src .now in
-    c .before .before .write-bytes .ensures ∙ rw (last-part src (v .i)) (v .inv .3)
+    c .before .before .write-doubling .ensures ∙ rw (last-part src (v .i)) (v .inv .3)
 
 pub write-doubled-spec : {M : Type 1} → statement M
 write-doubled-spec =
@@ -98,9 +98,9 @@ write-doubled-spec =
     write-part-requires
     loop-less
     loop-again
-    sub-write-bytes
-    part-write-bytes-start
-    part-write-bytes-end
-    write-bytes-requires
+    sub-write-doubling
+    part-write-doubling-start
+    part-write-doubling-end
+    write-doubling-requires
     same-length
     returns)

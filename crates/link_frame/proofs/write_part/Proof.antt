@@ -1,8 +1,9 @@
 -- `write_part`: a part with no DLE is its own doubled form.
 -- Assumes nothing.
-use mathlib.Core.Path.{ap, _∙_}
+use mathlib.Core.Path.{ap, sym, _∙_}
 use native.Mathlib.Omega.{arith}
 use lib.ListN.{length}
+use Rattle.link_frame.proofs.Doubling.{plain}
 use borrow.Author.Needs.{needs}
 use Rattle.link_frame.proofs.write_part.Statement.{statement}
 use Rattle.link_frame.proofs.write_part.Tie as tie
@@ -11,7 +12,7 @@ has-no-dle-requires : tie.Need-has-no-dle-requires
 has-no-dle-requires c κs = search needs
 
 write-plain-requires : tie.Need-write-plain-requires
-write-plain-requires c κs = omega (arith, ap length (c .before .before .has-no-dle .ensures (c .before .if1 .taken)))
+write-plain-requires c κs = omega (arith, ap length (plain _ (sym (c .before .before .has-no-dle .ensures) ∙ c .before .if1 .taken)))
 
 same-length : tie.Need-same-length
 same-length c = search needs
@@ -19,10 +20,10 @@ same-length c = search needs
 returns : tie.Need-returns
 returns c =
     let test = c .before .before .before .before in
-    c .before .before .write-plain .ensures ∙ rw (test .before .has-no-dle .ensures (test .if1 .taken))
+    c .before .before .write-plain .ensures ∙ rw (plain _ (sym (test .before .has-no-dle .ensures) ∙ test .if1 .taken))
 
-write-bytes-requires : tie.Need-write-bytes-requires
-write-bytes-requires c κs = search needs
+write-doubling-requires : tie.Need-write-doubling-requires
+write-doubling-requires c κs = search needs
 
 same-length-2 : tie.Need-same-length-2
 same-length-2 c = search needs
@@ -38,6 +39,6 @@ write-part-spec =
     write-plain-requires
     same-length
     returns
-    write-bytes-requires
+    write-doubling-requires
     same-length-2
     returns-2)

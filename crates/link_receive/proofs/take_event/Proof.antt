@@ -12,20 +12,20 @@ enum-known-event c = search needs
 enum-told : tie.Need-enum-told
 enum-told c = search needs
 
-at-rest-requires : tie.Need-at-rest-requires
-at-rest-requires c κs = search needs
+rest-byte-requires : tie.Need-rest-byte-requires
+rest-byte-requires c κs = search needs
 
 enum-known-phase : tie.Need-enum-known-phase
 enum-known-phase c = search needs
 
-inside-requires : tie.Need-inside-requires
-inside-requires c κs = search needs
+inside-byte-requires : tie.Need-inside-byte-requires
+inside-byte-requires c κs = search needs
 
 enum-told-2 : tie.Need-enum-told-2
 enum-told-2 c = search needs
 
-waiting-requires : tie.Need-waiting-requires
-waiting-requires c κs = search needs
+waiting-byte-requires : tie.Need-waiting-byte-requires
+waiting-byte-requires c κs = search needs
 
 enum-told-3 : tie.Need-enum-told-3
 enum-told-3 c = search needs
@@ -52,7 +52,7 @@ returns : tie.Need-returns
 unfolding eventOf byteOf
 returns c =
     let phase = c .before in
-    rw (phase .before .before .before .event .given .1, phase .enum-told .given .1, c .at-rest .ensures)
+    rw (phase .before .before .before .event .given .1, phase .enum-told .given .1, c .rest-byte .ensures)
 
 same-length : tie.Need-same-length
 same-length c = search needs
@@ -61,13 +61,13 @@ returns-2 : tie.Need-returns-2
 unfolding eventOf byteOf
 returns-2 c =
     let phase = c .before .before .before .before .before in
-    c .before .before .inside .ensures ∙ rw (phase .before .before .before .event .given .1, phase .phase .given .1)
+    c .before .before .inside-byte .ensures ∙ rw (phase .before .before .before .event .given .1, phase .phase .given .1)
 
 returns-3 : tie.Need-returns-3
 unfolding eventOf byteOf
 returns-3 c =
     let phase = c .before in
-    rw (phase .before .before .before .event .given .1, phase .enum-told2 .given .1, c .waiting .ensures)
+    rw (phase .before .before .before .event .given .1, phase .enum-told2 .given .1, c .waiting-byte .ensures)
 
 returns-4 : tie.Need-returns-4
 unfolding eventOf timerOf
@@ -93,11 +93,11 @@ take-event-spec =
     (tie.spec
     enum-known-event
     enum-told
-    at-rest-requires
+    rest-byte-requires
     enum-known-phase
-    inside-requires
+    inside-byte-requires
     enum-told-2
-    waiting-requires
+    waiting-byte-requires
     enum-told-3
     enum-told-4
     rest-requires

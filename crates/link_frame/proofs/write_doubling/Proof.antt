@@ -1,4 +1,4 @@
--- `write_bytes`: what is done, and what is left from i on, make the whole. What is left falls.
+-- `write_doubling`: what is done, and what is left from i on, make the whole. What is left falls.
 -- Assumes nothing.
 use Prim.Native.Nat.{_≤_, _-_}
 use mathlib.Core.Path.{_≡_, refl, ap}
@@ -9,8 +9,8 @@ use Rattle.link_frame.specs.Frame.{doubled, xorOver}
 use Rattle.link_frame.specs.Writing.{writing}
 use Rattle.link_frame.proofs.Doubling.{Twice, Once, none-left, next-dle, next-other}
 use Rattle.link_frame.proofs.Steps.{writing-step, writing-end, place}
-use Rattle.link_frame.proofs.write_bytes.Statement.{statement}
-use Rattle.link_frame.proofs.write_bytes.Tie as tie
+use Rattle.link_frame.proofs.write_doubling.Statement.{statement}
+use Rattle.link_frame.proofs.write_doubling.Tie as tie
 
 abbrev Inv-loop : tie.InvT-loop
 Inv-loop part out₀ from start at₀ check₀ i₀ out at check i =
@@ -89,8 +89,8 @@ returns c =
     let none = none-left (c .before .before .args .part .now) (v .i) (c .loop-test .left) in
     writing-end none (v .at) (v .check) (v .out) (v .inv .2)
 
-pub write-bytes-spec : {M : Type 1} → statement M
-write-bytes-spec =
+pub write-doubling-spec : {M : Type 1} → statement M
+write-doubling-spec =
     tie.close
     (tie.spec
     Inv-loop

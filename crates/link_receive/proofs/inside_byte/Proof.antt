@@ -1,10 +1,10 @@
--- `inside`: the rows inside a block, for a byte.
+-- `inside_byte`: the rows inside a block, for a byte.
 -- Assumes nothing.
 use borrow.Author.Needs.{needs}
 use mathlib.Core.Path.{sym, _∙_}
 use Rattle.link_receive.proofs.Rows.{inside-dle, inside-data, seen-dle, seen-etx, seen-other}
-use Rattle.link_receive.proofs.inside.Statement.{statement}
-use Rattle.link_receive.proofs.inside.Tie as tie
+use Rattle.link_receive.proofs.inside_byte.Statement.{statement}
+use Rattle.link_receive.proofs.inside_byte.Tie as tie
 
 enum-told : tie.Need-enum-told
 enum-told c = search needs
@@ -49,8 +49,8 @@ returns-5 c =
     rw (test .before .before .enum-told2 .given .1, c .rest .ensures)
     (sym (seen-other _ _ _ _ (test .before .if2 .left) (test .if3 .left)))
 
-pub inside-spec : {M : Type 1} → statement M
-inside-spec =
+pub inside-byte-spec : {M : Type 1} → statement M
+inside-byte-spec =
     tie.close
     (tie.spec
     enum-told
