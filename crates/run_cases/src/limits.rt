@@ -9,26 +9,46 @@ use link_receive::Phase;
 // What buffers hold before a call.
 const BEFORE: u8 = 0xEE;
 
-// Whether every place of a slice is as it was before.
-fn is_unchanged(s: &[u8]) -> bool {
-    let mut i: usize = 0;
+// The first place, from n on, that is not as it was before; the length where there is none.
+fn first_change(s: &[u8], n: usize) -> usize {
+    let mut i = n;
     while i < s.len() {
         if s[i] != BEFORE {
-            return false;
+            return i;
         }
         i += 1;
     }
-    true
+    s.len()
 }
 
-// Says so where the places from n on are as they were before.
-fn rest_case(s: &[u8], n: usize) {
-    if n <= s.len() {
-        if is_unchanged(&s[n..]) {
-            show::text(b", the rest unchanged");
+// The place from n on that changed, if one did, and that no other place did.
+fn show_changes(s: &[u8], n: usize) {
+    let at = first_change(s, n);
+    if at < s.len() {
+        show::text(b", place");
+        show::number(at);
+        show::text(b" is");
+        show::byte(s[at]);
+        if first_change(s, at + 1) < s.len() {
+            show::text(b", and more changed\n");
+            return;
         }
     }
-    show::text(b"\n");
+    show::text(b", nothing else changed\n");
+}
+
+// The last three bytes of a frame of n bytes.
+fn show_end(s: &[u8], n: usize) {
+    if n < 3 {
+        return;
+    }
+    if s.len() < n {
+        return;
+    }
+    show::text(b" ending");
+    show::byte(s[n - 3]);
+    show::byte(s[n - 2]);
+    show::byte(s[n - 1]);
 }
 
 // Frames src into the first places of out.
@@ -39,11 +59,12 @@ fn frame_into(src: &[u8], out: &mut [u8], places: usize) {
     match link_frame::frame(src, &mut out[0..places]) {
         FrameAnswer::Written(k) => {
             show::number(k);
-            rest_case(&*out, k);
+            show_end(&*out, k);
+            show_changes(&*out, k);
         }
         FrameAnswer::Refused(r) => {
             show::refusal(r);
-            rest_case(&*out, 0);
+            show_changes(&*out, 0);
         }
     }
 }
@@ -85,7 +106,7 @@ fn event_into(state: LinkState, event: LinkEvent, buffer: &mut [u8], places: usi
     }
     let step = link_receive::receive(state, event, &mut buffer[0..places]);
     show::step(step);
-    rest_case(&*buffer, 0);
+    show_changes(&*buffer, 0);
 }
 
 // One event at a phase with a count and check 44, with a buffer of so many places.

@@ -7,17 +7,12 @@ use link_receive::LinkAnswer;
 use link_receive::LinkEvent;
 use link_receive::LinkState;
 use link_receive::LinkStep;
-use link_receive::Phase;
 
 // A half at rest, before any event.
 fn at_rest() -> LinkStep {
     LinkStep {
         answer: LinkAnswer::Nothing,
-        state: LinkState {
-            count: 0,
-            check: 0,
-            phase: Phase::Rest,
-        },
+        state: LinkState::at_rest(),
     }
 }
 
@@ -96,6 +91,47 @@ fn send_back(src: &[u8], frame: &[u8], n: usize) {
     compare(src, answer, &buffer);
 }
 
+// Frames the data once more, into so many places.
+fn frame_again(src: &[u8], frame: &[u8], out: &mut [u8], places: usize) {
+    if out.len() < places {
+        return;
+    }
+    show::text(b"into");
+    show::number(places);
+    show::text(b" places:");
+    match link_frame::frame(src, &mut out[0..places]) {
+        FrameAnswer::Refused(r) => {
+            show::refusal(r);
+            show::text(b"\n");
+        }
+        FrameAnswer::Written(n) => {
+            show::number(n);
+            if n <= out.len() {
+                if check::same(frame, &out[0..n]) {
+                    show::text(b", the same frame\n");
+                    return;
+                }
+            }
+            show::text(b", NOT the same frame\n");
+        }
+    }
+}
+
+// Shows the frame, frames into its exact length and into one place less, and feeds it back.
+fn show_frame(src: &[u8], frame: &[u8]) {
+    let mut out = [0u8; 2051];
+    let n = frame.len();
+    show::text(b"data");
+    show::line(src, src.len());
+    show::text(b"frame");
+    show::line(frame, n);
+    frame_again(src, frame, &mut out, n);
+    if 0 < n {
+        frame_again(src, frame, &mut out, n - 1);
+    }
+    send_back(src, frame, n);
+}
+
 // Frames the data, feeds the frame back, and compares.
 pub(crate) fn play(src: &[u8]) {
     let mut out = [0u8; 2051];
@@ -106,11 +142,9 @@ pub(crate) fn play(src: &[u8]) {
             show::text(b"\n");
         }
         FrameAnswer::Written(n) => {
-            show::text(b"data");
-            show::line(src, src.len());
-            show::text(b"frame");
-            show::line(&out, n);
-            send_back(src, &out, n);
+            if n <= 2051 {
+                show_frame(src, &out[0..n]);
+            }
         }
     }
 }

@@ -69,11 +69,26 @@ impl Expected {
                 let frame = &out[..length];
                 self.line("data", data);
                 self.line("frame", frame);
+                self.frame_again(data, frame, length);
+                self.frame_again(data, frame, length - 1);
                 self.feed(&[&[STX], frame].concat());
                 // Every frame is read back as its data.
                 self.text += "the message is the data\n";
             }
         }
+    }
+
+    /// Frames the data into so many places; what fits is the frame that is known.
+    fn frame_again(&mut self, data: &[u8], known: &[u8], places: usize) {
+        let mut out = vec![0; places];
+        let framed = frame(data, &mut out);
+        self.count(frame_kind(framed));
+        let given = match framed {
+            Ok(length) if out[..length] == *known => format!("{length}, the same frame"),
+            Ok(length) => format!("{length}, NOT the same frame"),
+            Err(number) => format!("refused {number}"),
+        };
+        self.text += &format!("into {places} places: {given}\n");
     }
 
     /// Feeds the bytes to a half at rest.
@@ -108,16 +123,20 @@ impl Expected {
     }
 
     fn frame_limit(&mut self, value: u8, length: usize, places: usize) {
-        let mut out = vec![BEFORE; places];
-        let framed = frame(&vec![value; length], &mut out);
+        let mut out = [BEFORE; 2052];
+        let framed = frame(&vec![value; length], &mut out[..places]);
         self.count(frame_kind(framed));
-        let given = match framed {
-            Ok(length) => format!("{length}"),
-            Err(number) => format!("refused {number}"),
+        let (given, from) = match framed {
+            Ok(length) => (
+                format!("{length} ending{}", hex(&out[length - 3..length])),
+                length,
+            ),
+            Err(number) => (format!("refused {number}"), 0),
         };
-        let rest = rest_text(&out[framed.unwrap_or(0)..]);
-        self.text +=
-            &format!("frame of {length} bytes {value:02X} into {places} places: {given}{rest}\n");
+        let changes = changes_text(&out, from);
+        self.text += &format!(
+            "frame of {length} bytes {value:02X} into {places} places: {given}{changes}\n"
+        );
     }
 
     fn event_limit(&mut self, phase: Phase, count: usize, event: Event, places: usize) {
@@ -126,8 +145,8 @@ impl Expected {
             count,
             check: 0x44,
         };
-        let mut buffer = vec![BEFORE; places];
-        let (answer, next) = receive(state, event, &mut buffer);
+        let mut buffer = [BEFORE; 1025];
+        let (answer, next) = receive(state, event, &mut buffer[..places]);
         self.count(kind(phase, event, answer));
         let event = match event {
             Event::Byte(byte) => format!("byte {byte:02X}"),
@@ -138,7 +157,7 @@ impl Expected {
             state_text(state),
             answer_text(answer),
             state_text(next),
-            rest_text(&buffer)
+            changes_text(&buffer, 0)
         );
     }
 }
@@ -185,10 +204,18 @@ const EVENTS: [(usize, Event, usize); 14] = [
     (1025, Event::Byte(0x10), 1025),
 ];
 
-fn rest_text(rest: &[u8]) -> &'static str {
-    match rest.iter().all(|&byte| byte == BEFORE) {
-        true => ", the rest unchanged",
-        false => "",
+/// The place from `from` on that changed, if one did; a call may change no more.
+fn changes_text(bytes: &[u8], from: usize) -> String {
+    let changed: Vec<usize> = (from..bytes.len())
+        .filter(|&place| bytes[place] != BEFORE)
+        .collect();
+    match changed[..] {
+        [] => ", nothing else changed".into(),
+        [place] => format!(
+            ", place {place} is {:02X}, nothing else changed",
+            bytes[place]
+        ),
+        [place, ..] => format!(", place {place} is {:02X}, and more changed", bytes[place]),
     }
 }
 
@@ -259,6 +286,7 @@ mod tests {
     #[test]
     fn framing() {
         let lines = "data 10\nframe 10 10 10 03 13\n\
+            into 5 places: 5, the same frame\ninto 4 places: refused 11\n\
             fed 02: sends 10\nfed 10: nothing\nfed 10: nothing\nfed 10: nothing\nfed 03: nothing\n\
             fed 13: sends 10, message of 1\nmessage 10\nthe message is the data\n";
         assert_eq!(text(Mode::Play, &[0x10]), lines);

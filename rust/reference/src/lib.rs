@@ -1,4 +1,4 @@
-//! A second, independent implementation, meant to be compared with another
+//! A second, independent implementation of the 3964R link, to be compared with the proved
 //! one by running both. It prefers being easy to check over being fast.
 
 #![forbid(unsafe_code)]

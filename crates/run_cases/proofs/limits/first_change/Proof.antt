@@ -1,16 +1,16 @@
--- `is_unchanged` stays within the slice and ends.
+-- `first_change` stays within the slice and ends.
 -- Assumes nothing.
-use Prim.Native.Nat.{_≤_, _-_}
+use Prim.Native.Nat.{_-_}
 use lib.ListN.{length}
 use borrow.Author.Needs.{needs}
-use Rattle.run_cases.proofs.limits.is_unchanged.Statement.{statement}
-use Rattle.run_cases.proofs.limits.is_unchanged.Tie as tie
+use Rattle.run_cases.proofs.limits.first_change.Statement.{statement}
+use Rattle.run_cases.proofs.limits.first_change.Tie as tie
 
 abbrev Inv-loop : tie.InvT-loop
-Inv-loop s i₀ i = i ≤ length s
+Inv-loop s n i₀ i = Unit {0}
 
 abbrev μ-loop : tie.MeasureT-loop
-μ-loop s i₀ i = length s - i
+μ-loop s n i₀ i = length s - i
 
 loop-holds : tie.Need-loop-holds Inv-loop μ-loop
 loop-holds c = search needs
@@ -33,8 +33,8 @@ loop-again c = search needs
 returns-2 : tie.Need-returns-2 Inv-loop μ-loop
 returns-2 c = search needs
 
-pub is-unchanged-spec : {M : Type 1} → statement M
-is-unchanged-spec =
+pub first-change-spec : {M : Type 1} → statement M
+first-change-spec =
     tie.close
     (tie.spec
     Inv-loop
