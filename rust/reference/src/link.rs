@@ -522,6 +522,15 @@ mod tests {
 
     // State against buffer
 
+    /// A state with a count, in each phase.
+    fn states(count: usize) -> impl Iterator<Item = State> {
+        PHASES.into_iter().map(move |phase| State {
+            phase,
+            count,
+            check: 0x5A,
+        })
+    }
+
     #[test]
     fn count_over_the_limit_is_refused() {
         for (length, counts) in [
@@ -531,16 +540,9 @@ mod tests {
             (1025, [1025, 1026, usize::MAX]),
             (3000, [1025, 3000, usize::MAX]),
         ] {
-            for count in counts {
-                for phase in PHASES {
-                    for event in every_event() {
-                        let state = State {
-                            phase,
-                            count,
-                            check: 0x5A,
-                        };
-                        assert_eq!(step(state, event, length), (Answer::Refused(1), state));
-                    }
+            for state in counts.into_iter().flat_map(states) {
+                for event in every_event() {
+                    assert_eq!(step(state, event, length), (Answer::Refused(1), state));
                 }
             }
         }
@@ -549,13 +551,8 @@ mod tests {
     #[test]
     fn count_at_the_limit_is_taken() {
         for (length, count) in [(0, 0), (3, 3), (1024, 1024), (1025, 1024), (3000, 1024)] {
-            for phase in PHASES {
+            for state in states(count) {
                 for event in every_event() {
-                    let state = State {
-                        phase,
-                        count,
-                        check: 0x5A,
-                    };
                     let (answer, _) = step(state, event, length);
                     assert!(!matches!(answer, Answer::Refused(_)));
                 }

@@ -1,6 +1,6 @@
 -- `write_doubled`: what is done, and what is left from i on, make the whole. What is left falls.
 -- Assumes nothing.
-use Prim.Native.Nat.{_≤_, _+_, _-_}
+use Prim.Native.Nat.{ℕ, _≤_, _+_, _-_}
 use mathlib.Core.Path.{_≡_, refl, ap, _∙_}
 use native.Mathlib.Omega.{arith}
 use borrow.Author.Needs.{needs}
@@ -11,6 +11,10 @@ use Rattle.link_frame.proofs.Doubling.{next-part, last-part}
 use Rattle.link_frame.proofs.Steps.{writing-step, place}
 use Rattle.link_frame.proofs.write_doubled.Statement.{statement}
 use Rattle.link_frame.proofs.write_doubled.Tie as tie
+
+-- the length of a part in the code
+abbrev PART : ℕ
+PART = 16
 
 abbrev Inv-loop : tie.InvT-loop
 Inv-loop src out₀ n at₀ check₀ i₀ out at check i =
@@ -41,7 +45,7 @@ part-write-part-end c = search needs
 write-part-requires : tie.Need-write-part-requires Inv-loop μ-loop
 write-part-requires c κs =
     let v = c .before .before .before .loop in
-    let e = next-part (c .before .before .before .before .before .before .args .src .now) (v .i) (v .i + 16) (omega arith) in
+    let e = next-part (c .before .before .before .before .before .before .args .src .now) (v .i) (v .i + PART) (omega arith) in
     omega (arith, place (writing-step e (v .at) (v .check) (v .out) (v .inv .3)))
 
 loop-less : tie.Need-loop-less Inv-loop μ-loop
@@ -52,11 +56,11 @@ loop-again c =
     let v = c .before .before .before .before .before .before .loop in
     let src = c .before .before .before .before .before .before .before .before .before .args .src .now in
     let p = c .before .before .write-part in
-    let e = next-part src (v .i) (v .i + 16) (omega arith) in (
+    let e = next-part src (v .i) (v .i + PART) (omega arith) in (
       refl,
       omega arith,
       p .kept .1 .0 ∙ v .inv .2,
-      ap (λ (w : Writing). writing (w .at) (w .check) (doubled (drop (v .i + 16) src)) (w .output)) (p .ensures)
+      ap (λ (w : Writing). writing (w .at) (w .check) (doubled (drop (v .i + PART) src)) (w .output)) (p .ensures)
           ∙ writing-step e (v .at) (v .check) (v .out) (v .inv .3),
     )
 
