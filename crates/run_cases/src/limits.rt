@@ -21,7 +21,7 @@ fn first_change(s: &[u8], n: usize) -> usize {
     s.len()
 }
 
-// The place from n on that changed, if one did, and that no other place did.
+// The place from n on that changed, if one did, and whether more did.
 fn show_changes(s: &[u8], n: usize) {
     let at = first_change(s, n);
     if at < s.len() {

@@ -24,8 +24,10 @@ fn show_fed(b: u8, answer: LinkAnswer, buffer: &[u8]) {
     show::answer(answer);
     show::text(b"\n");
     if let LinkAnswer::Message(count) = answer {
-        show::text(b"message");
-        show::line(buffer, count);
+        if count <= buffer.len() {
+            show::text(b"message");
+            show::line(&buffer[0..count]);
+        }
     }
 }
 
@@ -38,14 +40,11 @@ fn feed_byte(last: LinkStep, b: u8, buffer: &mut [u8]) -> LinkStep {
     step
 }
 
-// Feeds the first n bytes.
-fn feed_bytes(start: LinkStep, bytes: &[u8], n: usize, buffer: &mut [u8]) -> LinkStep {
+// Feeds the bytes one after the other.
+fn feed_bytes(start: LinkStep, bytes: &[u8], buffer: &mut [u8]) -> LinkStep {
     let mut last = start;
     let mut i: usize = 0;
-    while i < n {
-        if bytes.len() <= i {
-            return last;
-        }
+    while i < bytes.len() {
         last = feed_byte(last, bytes[i], &mut *buffer);
         i += 1;
     }
@@ -64,7 +63,7 @@ pub(crate) fn listen() {
         if n == 0 {
             return;
         }
-        last = feed_bytes(last, &input, n, &mut buffer);
+        last = feed_bytes(last, &input[..n], &mut buffer);
         turns -= 1;
     }
 }
@@ -82,11 +81,11 @@ fn compare(src: &[u8], answer: LinkAnswer, buffer: &[u8]) {
     show::text(b"the message is NOT the data\n");
 }
 
-// Feeds STX and the first n bytes of a frame to a half at rest, and compares its message with the data.
-fn send_back(src: &[u8], frame: &[u8], n: usize) {
+// Feeds STX and a frame to a half at rest, and compares its message with the data.
+fn send_back(src: &[u8], frame: &[u8]) {
     let mut buffer = [0u8; 1024];
     let opened = feed_byte(at_rest(), STX, &mut buffer);
-    let last = feed_bytes(opened, frame, n, &mut buffer);
+    let last = feed_bytes(opened, frame, &mut buffer);
     let answer = last.answer;
     compare(src, answer, &buffer);
 }
@@ -122,14 +121,14 @@ fn show_frame(src: &[u8], frame: &[u8]) {
     let mut out = [0u8; 2051];
     let n = frame.len();
     show::text(b"data");
-    show::line(src, src.len());
+    show::line(src);
     show::text(b"frame");
-    show::line(frame, n);
+    show::line(frame);
     frame_again(src, frame, &mut out, n);
     if 0 < n {
         frame_again(src, frame, &mut out, n - 1);
     }
-    send_back(src, frame, n);
+    send_back(src, frame);
 }
 
 // Frames the data, feeds the frame back, and compares.

@@ -23,7 +23,7 @@ fn main() {
         return;
     }
     if m == b'p' {
-        // One byte more than a frame takes shows that the data is too long.
+        // One byte more than a block holds shows that the data is too long.
         let mut input = [0u8; 1025];
         let n = io::read_full(STDIN_FILENO, &mut input);
         link::play(&input[..n]);

@@ -12,7 +12,7 @@ pub(crate) fn text(s: &[u8]) {
     io::write_all(STDOUT_FILENO, s);
 }
 
-// The capital hex digit of a number below 16.
+// The last hex digit of a number, as a capital.
 fn hex_digit(n: u8) -> u8 {
     let d = n % 16;
     if d < 10 { b'0' + d } else { 55 + d }
@@ -23,13 +23,10 @@ pub(crate) fn byte(b: u8) {
     text(&[b' ', hex_digit(b / 16), hex_digit(b)]);
 }
 
-// The first n bytes, and the end of the line.
-pub(crate) fn line(s: &[u8], n: usize) {
+// The bytes, and the end of the line.
+pub(crate) fn line(s: &[u8]) {
     let mut i: usize = 0;
-    while i < n {
-        if s.len() <= i {
-            return;
-        }
+    while i < s.len() {
         byte(s[i]);
         i += 1;
     }

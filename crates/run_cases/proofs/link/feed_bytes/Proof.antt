@@ -8,19 +8,13 @@ use Rattle.run_cases.proofs.link.feed_bytes.Statement.{statement}
 use Rattle.run_cases.proofs.link.feed_bytes.Tie as tie
 
 abbrev Inv-loop : tie.InvT-loop
-Inv-loop bytes n buffer₀ last₀ i₀ buffer last i = (length buffer ≡ length buffer₀) × (i ≤ n)
+Inv-loop bytes buffer₀ last₀ i₀ buffer last i = (length buffer ≡ length buffer₀) × (i ≤ length bytes)
 
 abbrev μ-loop : tie.MeasureT-loop
-μ-loop bytes n buffer₀ last₀ i₀ buffer last i = n - i
+μ-loop bytes buffer₀ last₀ i₀ buffer last i = length bytes - i
 
 loop-holds : tie.Need-loop-holds Inv-loop μ-loop
 loop-holds c = search needs
-
-same-length : tie.Need-same-length Inv-loop μ-loop
-same-length c = search needs
-
-returns : tie.Need-returns Inv-loop μ-loop
-returns c = search needs
 
 shared-slice-read-feed-byte : tie.Need-shared-slice-read-feed-byte Inv-loop μ-loop
 shared-slice-read-feed-byte c = search needs
@@ -37,11 +31,11 @@ loop-less c = search needs
 loop-again : tie.Need-loop-again Inv-loop μ-loop
 loop-again c = search needs
 
-same-length-2 : tie.Need-same-length-2 Inv-loop μ-loop
-same-length-2 c = search needs
+same-length : tie.Need-same-length Inv-loop μ-loop
+same-length c = search needs
 
-returns-2 : tie.Need-returns-2 Inv-loop μ-loop
-returns-2 c = search needs
+returns : tie.Need-returns Inv-loop μ-loop
+returns c = search needs
 
 pub feed-bytes-spec : {M : Type 1} → statement M
 feed-bytes-spec =
@@ -50,12 +44,10 @@ feed-bytes-spec =
     Inv-loop
     μ-loop
     loop-holds
-    same-length
-    returns
     shared-slice-read-feed-byte
     feed-byte-requires
     add-i
     loop-less
     loop-again
-    same-length-2
-    returns-2)
+    same-length
+    returns)

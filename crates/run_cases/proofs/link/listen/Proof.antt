@@ -30,6 +30,9 @@ read-full-requires c κs = search needs
 returns : tie.Need-returns Inv-loop μ-loop
 returns c = search needs
 
+array-share-prefix-input : tie.Need-array-share-prefix-input Inv-loop μ-loop
+array-share-prefix-input c = search needs
+
 slice-aggregate-feed-bytes : tie.Need-slice-aggregate-feed-bytes Inv-loop μ-loop
 slice-aggregate-feed-bytes c = search needs
 
@@ -63,6 +66,7 @@ listen-spec =
     slice-aggregate-read-full
     read-full-requires
     returns
+    array-share-prefix-input
     slice-aggregate-feed-bytes
     slice-aggregate-feed-bytes-2
     feed-bytes-requires

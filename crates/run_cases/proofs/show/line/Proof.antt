@@ -1,21 +1,19 @@
 -- `line` stays within the slice and ends.
 -- Assumes nothing.
 use Prim.Native.Nat.{_≤_, _-_}
+use lib.ListN.{length}
 use borrow.Author.Needs.{needs}
 use Rattle.run_cases.proofs.show.line.Statement.{statement}
 use Rattle.run_cases.proofs.show.line.Tie as tie
 
 abbrev Inv-loop : tie.InvT-loop
-Inv-loop s n i₀ t4 i = i ≤ n
+Inv-loop s i₀ t3 i = i ≤ length s
 
 abbrev μ-loop : tie.MeasureT-loop
-μ-loop s n i₀ t4 i = n - i
+μ-loop s i₀ t3 i = length s - i
 
 loop-holds : tie.Need-loop-holds Inv-loop μ-loop
 loop-holds c = search needs
-
-returns : tie.Need-returns Inv-loop μ-loop
-returns c = search needs
 
 shared-slice-read-byte : tie.Need-shared-slice-read-byte Inv-loop μ-loop
 shared-slice-read-byte c = search needs
@@ -38,8 +36,8 @@ slice-aggregate-text c = search needs
 text-requires : tie.Need-text-requires Inv-loop μ-loop
 text-requires c κs = search needs
 
-returns-2 : tie.Need-returns-2 Inv-loop μ-loop
-returns-2 c = search needs
+returns : tie.Need-returns Inv-loop μ-loop
+returns c = search needs
 
 pub line-spec : {M : Type 1} → statement M
 line-spec =
@@ -48,7 +46,6 @@ line-spec =
     Inv-loop
     μ-loop
     loop-holds
-    returns
     shared-slice-read-byte
     byte-requires
     add-i
@@ -56,4 +53,4 @@ line-spec =
     loop-again
     slice-aggregate-text
     text-requires
-    returns-2)
+    returns)
