@@ -21,7 +21,7 @@ pub record Filling : Type 0 where
 abbrev pub denied : ℕ → List ℕ → Filling
 denied k out = record { given = refused k; output = out }
 
--- the bytes in the first places of the output, the rest as it was
+-- the bytes come first in the output, and what is behind them stays
 abbrev pub written : List ℕ → List ℕ → Filling
 written bytes out = record { given = filled (length bytes); output = placed bytes out }
 

@@ -19,7 +19,7 @@ pub record OnlyAt (place : ℕ) (before after : List ℕ) : Type 0 where
 abbrev pub WritesAtCount : Type 0
 WritesAtCount = (s : LinkState) (e : LinkEvent) (buf : List ℕ) → OnlyAt (s .count) buf (receiveOf s e buf .buffer)
 
--- an event that leaves the half at rest leaves count and running check 0, and erases nothing
+-- an event that is not refused and ends at rest clears count and running check, and erases nothing
 pub record Settled (buf : List ℕ) (o : Outcome) : Type 0 where
   pub clear : o .reaction .next ≡ at Rest 0 0
   pub kept : o .buffer ≡ buf

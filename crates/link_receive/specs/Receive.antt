@@ -66,7 +66,7 @@ at p n c = record { count = n; check = c; phase = p }
 abbrev pub to : Response → LinkState → Reaction
 to r s = record { response = r; next = s }
 
--- whatever leaves the half at rest leaves count and running check 0
+-- to rest, where count and running check are 0
 abbrev pub resting : Response → Reaction
 resting r = to r (at Rest 0 0)
 

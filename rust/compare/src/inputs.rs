@@ -75,7 +75,7 @@ impl Random {
     }
 }
 
-/// The one run without input.
+/// The one run that reads no input.
 pub fn limits() -> Vec<Case> {
     vec![Case {
         name: "the calls at their limits".into(),

@@ -6,7 +6,7 @@ use std::iter::repeat_n;
 
 /// Opens a block.
 pub const STX: u8 = 0x02;
-/// Closes a block when it comes right after a `DLE`.
+/// Closes a block when it comes right after a `DLE` that is not the second of a pair.
 pub const ETX: u8 = 0x03;
 /// Escape inside a block; on its own, the positive acknowledgement.
 pub const DLE: u8 = 0x10;
