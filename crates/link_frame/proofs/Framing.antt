@@ -14,9 +14,10 @@ use Rattle.base.proofs.Places.{sets-append, sets-placed}
 use Rattle.base.proofs.Filling.{fitted-short, fitted-room}
 use Rattle.link_frame.proofs.Check.{check-byte}
 use Rattle.link_frame.specs.ControlBytes.{ETX, DLE}
-use Rattle.link_frame.specs.Frame.{doubled, xorOver, checked, checkByte, frameOf, framing, fillingOf}
+use Rattle.link_frame.specs.Frame.{doubled, xorOver, checked, checkByte, frameOf, framing}
 use Rattle.link_frame.specs.Writing.{Writing, writing}
-use Rattle.link_frame.specs.declared.FrameAnswer.the-variants.{Written}
+use Rattle.refusal.specs.Writing.{fillingOf}
+use Rattle.refusal.specs.declared.WriteAnswer.the-variants.{Written}
 
 -- the frame as the doubled data and three bytes more
 pub frame-bytes : (d : List ℕ) → frameOf d ≡ doubled d ++ (DLE ∷ ETX ∷ checkByte d ∷ [])

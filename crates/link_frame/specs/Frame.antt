@@ -6,11 +6,8 @@ use lib.Bits.{bitXor}
 use lib.Dec.{eqb, ltb}
 use lib.ListN.{length}
 use Rattle.base.specs.Choice.{pick}
-use Rattle.base.specs.Filling.{Given, filled, refused, Filling, denied, fitted}
-use Rattle.refusal.specs.Numbers.{numberOf}
+use Rattle.base.specs.Filling.{Filling, denied, fitted}
 use Rattle.link_frame.specs.ControlBytes.{ETX, DLE}
-use Rattle.link_frame.specs.declared.FrameAnswer.{FrameAnswer}
-use Rattle.link_frame.specs.declared.FrameAnswer.the-variants.{Written, Refused}
 
 -- a data byte as it is sent: a DLE twice, another once
 unfoldable pub sent : ℕ → List ℕ
@@ -37,15 +34,6 @@ checkByte d = xorOver 0 (checked d)
 -- the frame: all that, then the check byte, which is never doubled
 unfoldable pub frameOf : List ℕ → List ℕ
 frameOf d = checked d ++ (checkByte d ∷ [])
-
--- an answer in numbers: the length that was filled, or the refusal's number
-abbrev pub givenOf : FrameAnswer → Given
-givenOf (Written n) = filled n
-givenOf (Refused r) = refused (numberOf r)
-
--- an answer, and the output after it
-abbrev pub fillingOf : FrameAnswer → List ℕ → Filling
-fillingOf r out = record { given = givenOf r; output = out }
 
 -- the most bytes of data in one block
 abbrev pub maxData : ℕ

@@ -4,21 +4,17 @@ pub mod control;
 use control::DLE;
 use control::ETX;
 use refusal::Refusal;
+use refusal::WriteAnswer;
 ghost use mathlib.Core.Path.{_≡_};
 ghost use Prim.Native.Nat.{_+_, _≤_};
 ghost use lib.ListN.{length};
 ghost use Rattle.base.specs.Filling.{written};
-ghost use Rattle.link_frame.specs.Frame.{doubled, frameOf, framing, fillingOf};
+ghost use Rattle.refusal.specs.Writing.{fillingOf};
+ghost use Rattle.link_frame.specs.Frame.{doubled, frameOf, framing};
 ghost use Rattle.link_frame.specs.Writing.{noDle, writing, writingOf};
 
 // The most bytes of data in one block.
 pub const MAX_DATA: usize = 1024;
-
-// What framing gives: the frame's length, or a refusal.
-pub enum FrameAnswer {
-    Written(usize),
-    Refused(Refusal),
-}
 
 // Where writing stands: the next place, and the check over what was written.
 struct Progress {
@@ -139,7 +135,7 @@ fn write_doubled(src: &[u8], out: &mut [u8]) -> Progress
 }
 
 // Writes the frame of the data, for which the output has room.
-fn write_frame(src: &[u8], out: &mut [u8]) -> FrameAnswer
+fn write_frame(src: &[u8], out: &mut [u8]) -> WriteAnswer
     requires { ⌜ length (doubled (now src)) + 3 ≤ length (now out) ⌝ }
     ensures { λ r. ⌜ fillingOf r (now (out .exit)) ≡ written (frameOf (now (src .entry))) (now (out .entry)) ⌝ }
 {
@@ -149,24 +145,24 @@ fn write_frame(src: &[u8], out: &mut [u8]) -> FrameAnswer
     out[at] = DLE;
     out[at + 1] = ETX;
     out[at + 2] = check ^ DLE ^ ETX;
-    FrameAnswer::Written(at + 3)
+    WriteAnswer::Written(at + 3)
 }
 
 // The frame of the data in the first places of out, and its length; the other places keep their values.
 // Refused, and out as it was: 12 for more than MAX_DATA bytes of data, then 11 for an output that is too short.
-pub fn frame(src: &[u8], out: &mut [u8]) -> FrameAnswer
+pub fn frame(src: &[u8], out: &mut [u8]) -> WriteAnswer
     ensures { λ r. ⌜ fillingOf r (now (out .exit)) ≡ framing (now (src .entry)) (now (out .entry)) ⌝ }
 {
     let n = src.len();
     if MAX_DATA < n {
-        return FrameAnswer::Refused(Refusal::TooLong);
+        return WriteAnswer::Refused(Refusal::TooLong);
     }
     // The longest frame fits: no need to count first.
     if 2 * n + 3 <= out.len() {
         return write_frame(src, &mut *out);
     }
     if out.len() < doubled_length(src) + 3 {
-        return FrameAnswer::Refused(Refusal::OutputShort);
+        return WriteAnswer::Refused(Refusal::OutputShort);
     }
     write_frame(src, &mut *out)
 }

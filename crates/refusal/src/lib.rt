@@ -1,4 +1,4 @@
-// The refusals of the library, each with the number that is given back.
+// The refusals of the library, each with the number that is given back, and the answer of a call that writes.
 ghost use mathlib.Core.Path.{_≡_};
 ghost use Rattle.refusal.specs.Numbers.{numberOf};
 
@@ -50,4 +50,10 @@ impl Refusal {
             Refusal::TooLong => 12,
         }
     }
+}
+
+// What a call that writes gives: the length that it filled, or a refusal.
+pub enum WriteAnswer {
+    Written(usize),
+    Refused(Refusal),
 }

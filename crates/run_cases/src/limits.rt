@@ -1,10 +1,10 @@
 // The calls at their limits.
 use crate::show;
-use link_frame::FrameAnswer;
 use link_receive::Dle;
 use link_receive::LinkEvent;
 use link_receive::LinkState;
 use link_receive::Phase;
+use refusal::WriteAnswer;
 
 // What buffers hold before a call.
 const BEFORE: u8 = 0xEE;
@@ -57,12 +57,12 @@ fn frame_into(src: &[u8], out: &mut [u8], places: usize) {
         return;
     }
     match link_frame::frame(src, &mut out[0..places]) {
-        FrameAnswer::Written(k) => {
+        WriteAnswer::Written(k) => {
             show::number(k);
             show_end(&*out, k);
             show_changes(&*out, k);
         }
-        FrameAnswer::Refused(r) => {
+        WriteAnswer::Refused(r) => {
             show::refusal(r);
             show_changes(&*out, 0);
         }

@@ -1,12 +1,12 @@
 // The link on the screen: each byte that is fed to a receiving half, and its answer.
 use crate::show;
 use libc::STDIN_FILENO;
-use link_frame::FrameAnswer;
 use link_frame::control::STX;
 use link_receive::LinkAnswer;
 use link_receive::LinkEvent;
 use link_receive::LinkState;
 use link_receive::LinkStep;
+use refusal::WriteAnswer;
 
 // A half at rest, before any event.
 fn at_rest() -> LinkStep {
@@ -99,11 +99,11 @@ fn frame_again(src: &[u8], frame: &[u8], out: &mut [u8], places: usize) {
     show::number(places);
     show::text(b" places:");
     match link_frame::frame(src, &mut out[0..places]) {
-        FrameAnswer::Refused(r) => {
+        WriteAnswer::Refused(r) => {
             show::refusal(r);
             show::text(b"\n");
         }
-        FrameAnswer::Written(n) => {
+        WriteAnswer::Written(n) => {
             show::number(n);
             if n <= out.len() {
                 if check::same(frame, &out[0..n]) {
@@ -135,12 +135,12 @@ fn show_frame(src: &[u8], frame: &[u8]) {
 pub(crate) fn play(src: &[u8]) {
     let mut out = [0u8; 2051];
     match link_frame::frame(src, &mut out) {
-        FrameAnswer::Refused(r) => {
+        WriteAnswer::Refused(r) => {
             show::text(b"frame:");
             show::refusal(r);
             show::text(b"\n");
         }
-        FrameAnswer::Written(n) => {
+        WriteAnswer::Written(n) => {
             if n <= 2051 {
                 show_frame(src, &out[0..n]);
             }
