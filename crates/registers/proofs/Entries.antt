@@ -1,0 +1,57 @@
+-- An entry of the code against the row of its number.
+-- Assumes nothing.
+use mathlib.Core.Path.{_≡_, refl, sym, _∙_, ap}
+use mathlib.Core.Bool.{Bool, true, false, _&&_, or-false, and-false}
+use Prim.Native.Nat.{ℕ, zero, suc, _≤_, _<_}
+use native.Mathlib.Omega.{arith}
+use borrow.Author.Tests.{eqb-true, le-leb, lt-leb}
+use lib.Dec.{eqb, leb}
+use Rattle.base.specs.Choice.{pick}
+use Rattle.registers.specs.Rows.{rows, any, upTo, orOff, tableLength, placeOf, mayWrite, takes}
+use Rattle.registers.specs.Entries.{fits, Agrees}
+use Rattle.registers.specs.declared.Entry.{Entry}
+use Rattle.registers.proofs.Places.{NoneOf, no-place}
+use Rattle.registers.proofs.Tests.{both-true}
+
+-- the range that an entry stands for
+abbrev pub rangeFor : Entry → ℕ → Bool
+rangeFor r =
+    pick (eqb (r .2) 0 && eqb (r .3) 65535) any (pick (r .4) (orOff (upTo (r .2) (r .3))) (upTo (r .2) (r .3)))
+
+fits-range : (r : Entry) (v : ℕ) → v < 65536 → fits r v ≡ rangeFor r v
+unfolding fits
+fits-range r v h = all (eqb (r .2) 0 && eqb (r .3) 65535) refl
+  where
+    off : (b : Bool) → r .4 ≡ b → fits r v ≡ pick (r .4) (orOff (upTo (r .2) (r .3))) (upTo (r .2) (r .3)) v
+    off true e = rw e
+    off false e = rw e (or-false (upTo (r .2) (r .3) v))
+
+    all : (b : Bool) → (eqb (r .2) 0 && eqb (r .3) 65535) ≡ b → fits r v ≡ rangeFor r v
+    all true e =
+        let ends = both-true (eqb (r .2) 0) (eqb (r .3) 65535) e in
+        let low : r .2 ≤ v = omega (arith, eqb-true (r .2) 0 (ends .0)) in
+        let high : v ≤ r .3 = omega (arith, eqb-true (r .3) 65535 (ends .1)) in
+        rw e (simp (le-leb _ _ low, le-leb _ _ high))
+    all false e = rw e (off (r .4) refl)
+
+pub agrees : (e : Entry) {n k : ℕ} → n ≡ k → e .0 ≡ placeOf k → e .1 ≡ mayWrite k → rangeFor e ≡ takes k → Agrees e n
+agrees e is place write range =
+    record {
+      place = rw is place;
+      write = rw is write;
+      values = λ v h. rw is (fits-range e v h ∙ ap (λ (f : ℕ → Bool). f v) range);
+    }
+
+no-value : (v : ℕ) → upTo 1 0 v ≡ false
+no-value zero = refl
+no-value (suc v) = rw (lt-leb (suc v) 0 (omega arith)) (and-false (leb 1 (suc v)))
+
+pub none-agrees : (n : ℕ) → NoneOf Unit n rows → Agrees (tableLength, false, 1, 0, false) n
+unfolding mayWrite takes tableLength
+none-agrees n none =
+    let beyond = no-place n none in
+    record {
+      place = sym beyond;
+      write = rw beyond;
+      values = λ v h. rw beyond (fits-range (tableLength, false, 1, 0, false) v h ∙ no-value v);
+    }
