@@ -1,0 +1,6 @@
+pub mod Rolls
+pub mod Counts
+pub mod Stations
+pub mod Ends
+pub mod Zipper
+pub mod Scan
