@@ -1,0 +1,80 @@
+-- Reading a header, step by step: what each test gives.
+-- Assumes nothing.
+use mathlib.Core.Path.{_≡_}
+use mathlib.Core.Bool.{true, false, and-false}
+use mathlib.Core.List.{List}
+use Prim.Native.Nat.{ℕ, _+_, _≤_, _<_}
+use native.Mathlib.Omega.{arith}
+use borrow.Author.Tests.{lt-ltb, le-ltb, le-leb, lt-leb}
+use lib.Dec.{leb}
+use lib.ListN.{length, getD, take, drop}
+use Rattle.mop_header.specs.Header.{Head, head, isMark, markAgrees}
+use Rattle.mop_header.specs.Reading.{sound, faulty, allowed, functionAt, goodFor, judged, standardReading, countAt, extendedReading, maxTelegram, reading}
+use Rattle.mop_header.specs.declared.Form.the-variants.{Extended}
+use Rattle.mop_header.specs.declared.Reader.{Reader}
+
+-- the block, then the mark
+module _ (who : Reader) (h : Head) where
+  pub bad-block : goodFor who (h .block) ≡ false → judged who h ≡ faulty 5
+  unfolding judged
+  bad-block e = rw e
+
+  module _ (good : goodFor who (h .block) ≡ true) where
+    pub bad-mark : markAgrees h ≡ false → judged who h ≡ faulty 6
+    unfolding judged
+    bad-mark e = rw (good, e)
+
+    pub judged-sound : markAgrees h ≡ true → judged who h ≡ sound h
+    unfolding judged
+    judged-sound e = rw (good, e)
+
+module _ (who : Reader) (tg : List ℕ) where
+  -- the whole telegram
+  pub too-long : maxTelegram < length tg → reading who tg ≡ faulty 12
+  unfolding reading
+  too-long l = rw (lt-ltb maxTelegram (length tg) l)
+
+  module _ (small : length tg ≤ maxTelegram) where
+    pub cut : length tg < 6 → reading who tg ≡ faulty 2
+    unfolding reading
+    cut l = rw (le-ltb maxTelegram (length tg) small, lt-ltb (length tg) 6 l)
+
+    module _ (six : 6 ≤ length tg) where
+      pub not-allowed : allowed who (getD tg 0 0) ≡ false → reading who tg ≡ faulty 3
+      unfolding reading
+      not-allowed e = rw (le-ltb maxTelegram (length tg) small, le-ltb (length tg) 6 six, e)
+
+      module _ (function : allowed who (getD tg 0 0) ≡ true) where
+        pub as-extended : isMark (functionAt tg) (getD tg 2 0) (getD tg 3 0) (getD tg 4 0) (getD tg 5 0) ≡ true →
+            reading who tg ≡ extendedReading who tg
+        unfolding reading
+        as-extended e = rw (le-ltb maxTelegram (length tg) small, le-ltb (length tg) 6 six, function, e)
+
+        pub as-standard : isMark (functionAt tg) (getD tg 2 0) (getD tg 3 0) (getD tg 4 0) (getD tg 5 0) ≡ false →
+            reading who tg ≡ standardReading who tg
+        unfolding reading
+        as-standard e = rw (le-ltb maxTelegram (length tg) small, le-ltb (length tg) 6 six, function, e)
+
+  -- behind the mark
+  pub count-cut : length tg < 7 → extendedReading who tg ≡ faulty 2
+  unfolding extendedReading
+  count-cut l = rw (lt-ltb (length tg) 7 l)
+
+  module _ (seven : 7 ≤ length tg) where
+    pub count-small : countAt tg < 2 → extendedReading who tg ≡ faulty 4
+    unfolding extendedReading
+    count-small l = rw (le-ltb (length tg) 7 seven, lt-leb 2 (countAt tg) l)
+
+    pub count-large : 32 < countAt tg → extendedReading who tg ≡ faulty 4
+    unfolding extendedReading
+    count-large l = rw (le-ltb (length tg) 7 seven, lt-leb (countAt tg) 32 l, and-false (leb 2 (countAt tg)))
+
+    module _ (least : 2 ≤ countAt tg) (most : countAt tg ≤ 32) where
+      pub block-cut : length tg < 7 + countAt tg → extendedReading who tg ≡ faulty 2
+      unfolding extendedReading
+      block-cut l = rw (le-ltb (length tg) 7 seven, le-leb 2 (countAt tg) least, le-leb (countAt tg) 32 most, lt-ltb (length tg) (7 + countAt tg) l)
+
+      pub behind-mark : 7 + countAt tg ≤ length tg →
+          extendedReading who tg ≡ judged who (head (functionAt tg) (getD tg 1 0) (Extended (getD tg 2 0)) (take (countAt tg) (drop 7 tg)))
+      unfolding extendedReading
+      behind-mark l = rw (le-ltb (length tg) 7 seven, le-leb 2 (countAt tg) least, le-leb (countAt tg) 32 most, le-ltb (length tg) (7 + countAt tg) l)

@@ -1,0 +1,89 @@
+-- The header of a telegram: its parts, its bytes, and what is made of it on the way.
+-- Assumes nothing.
+use Prim.Native.Nat.{ℕ, zero, suc}
+use mathlib.Core.Bool.{Bool, true, _&&_, _||_}
+use mathlib.Core.List.{List, _∷_, _++_}
+use lib.Dec.{eqb}
+use lib.ListN.{length, take, drop}
+use Rattle.mop_block.specs.Block.{first, rollLeft, rollRight}
+use Rattle.mop_header.specs.declared.Function.{Function}
+use Rattle.mop_header.specs.declared.Function.the-variants.{Request, Reply}
+use Rattle.mop_header.specs.declared.Form.{Form}
+use Rattle.mop_header.specs.declared.Form.the-variants.{Standard, Extended}
+use Rattle.mop_header.specs.declared.Header.{Header}
+
+-- function, control byte, form (standard, or extended with the first mark byte), and the block
+pub record Head : Type 0 where
+  pub function : Function
+  pub control : ℕ
+  pub form : Form
+  pub block : List ℕ
+
+abbrev pub head : Function → ℕ → Form → List ℕ → Head
+head f c m b = record { function = f; control = c; form = m; block = b }
+
+-- what a header of the code stands for: the block is the first count entries, and those behind them mean nothing
+abbrev pub headOf : Header → Head
+headOf h = head (h .function) (h .control) (h .form) (take (h .count) (h .entries))
+
+-- the function byte
+unfoldable pub functionByte : Function → ℕ
+functionByte Request = 0x60
+functionByte Reply = 0xE0
+
+-- the bytes of the header between the control byte and the body: the block; or the mark, the block's length and the block
+unfoldable pub addressBytes : Form → List ℕ → List ℕ
+addressBytes Standard b = b
+addressBytes (Extended m) b = m ∷ 0xEF ∷ 0xEF ∷ 0xEF ∷ length b ∷ b
+
+-- the bytes of the header, and their number
+unfoldable pub headerBytes : Head → List ℕ
+headerBytes h = functionByte (h .function) ∷ h .control ∷ addressBytes (h .form) (h .block)
+
+unfoldable pub headerLength : Head → ℕ
+headerLength h = length (headerBytes h)
+
+-- the telegram of a header and a body, and the body behind a header
+unfoldable pub telegramOf : Head → List ℕ → List ℕ
+telegramOf h body = headerBytes h ++ body
+
+unfoldable pub bodyOf : Head → List ℕ → List ℕ
+bodyOf h telegram = drop (headerLength h) telegram
+
+-- "mark": four entries that make a header extended. The last three are EF, and the first is EF, or 00 in a reply
+unfoldable pub mayBegin : Function → ℕ → Bool
+mayBegin Request a = eqb a 0xEF
+mayBegin Reply a = eqb a 0xEF || eqb a 0
+
+unfoldable pub isMark : Function → ℕ → ℕ → ℕ → ℕ → Bool
+isMark f a b c d = eqb b 0xEF && (eqb c 0xEF && (eqb d 0xEF && mayBegin f a))
+
+-- the first mark byte, by the block's first entry: in a reply 00 exactly if that is 00
+unfoldable pub markOf : Function → ℕ → ℕ
+markOf Request a = 0xEF
+markOf Reply zero = 0x00
+markOf Reply (suc a) = 0xEF
+
+-- whether a form has a given first mark byte, and the form with another one; the standard form has none
+unfoldable pub hasMark : Form → ℕ → Bool
+hasMark Standard k = true
+hasMark (Extended m) k = eqb m k
+
+unfoldable pub withMark : Form → ℕ → Form
+withMark Standard k = Standard
+withMark (Extended m) k = Extended k
+
+-- whether the mark agrees with the block
+unfoldable pub markAgrees : Head → Bool
+markAgrees h = hasMark (h .form) (markOf (h .function) (first (h .block)))
+
+-- the mark set by the block's first entry
+unfoldable pub remarked : Head → Head
+remarked h = head (h .function) (h .control) (withMark (h .form) (markOf (h .function) (first (h .block)))) (h .block)
+
+-- the block rolled one place
+unfoldable pub rolledLeft : Head → Head
+rolledLeft h = head (h .function) (h .control) (h .form) (rollLeft (h .block))
+
+unfoldable pub rolledRight : Head → Head
+rolledRight h = head (h .function) (h .control) (h .form) (rollRight (h .block))

@@ -1,0 +1,88 @@
+-- Reading the header of a telegram, with the refusals in their order.
+-- Assumes nothing.
+use Prim.Native.Nat.{ℕ, _+_}
+use mathlib.Core.Bool.{Bool, not, _&&_, _||_}
+use mathlib.Core.List.{List, []}
+use lib.Dec.{eqb, ltb, leb}
+use lib.ListN.{length, getD, take, drop}
+use Rattle.base.specs.Choice.{pick}
+use Rattle.refusal.specs.Numbers.{numberOf}
+use Rattle.mop_block.specs.Block.{stations, goodBlock}
+use Rattle.mop_header.specs.Header.{Head, head, headOf, isMark, markAgrees}
+use Rattle.mop_header.specs.declared.Function.{Function}
+use Rattle.mop_header.specs.declared.Function.the-variants.{Request, Reply}
+use Rattle.mop_header.specs.declared.Form.the-variants.{Standard, Extended}
+use Rattle.mop_header.specs.declared.Reader.{Reader}
+use Rattle.mop_header.specs.declared.Reader.the-variants.{Station, Centre}
+use Rattle.mop_header.specs.declared.Verdict.{Verdict}
+use Rattle.mop_header.specs.declared.Verdict.the-variants.{Fine, Fault}
+use Rattle.mop_header.specs.declared.HeaderRead.{HeaderRead}
+
+-- a verdict in numbers: no fault, or the number of a refusal
+pub data Finding : Type 0 where
+  fine : Finding
+  fault : ℕ → Finding
+
+abbrev pub findingOf : Verdict → Finding
+findingOf Fine = fine
+findingOf (Fault r) = fault (numberOf r)
+
+-- what reading gives: the verdict, and the header
+pub record Reading : Type 0 where
+  pub finding : Finding
+  pub header : Head
+
+abbrev pub readingOf : HeaderRead → Reading
+readingOf r = record { finding = findingOf (r .verdict); header = headOf (r .header) }
+
+-- a header without a fault; a refusal, which goes with an empty header
+abbrev pub sound : Head → Reading
+sound h = record { finding = fine; header = h }
+
+abbrev pub faulty : ℕ → Reading
+faulty k = record { finding = fault k; header = head Request 0 Standard [] }
+
+-- the function bytes that a reader takes: a station requests and replies, the centre replies
+unfoldable pub allowed : Reader → ℕ → Bool
+allowed Station f = eqb f 0x60 || eqb f 0xE0
+allowed Centre f = eqb f 0xE0
+
+unfoldable pub functionAt : List ℕ → Function
+functionAt tg = pick (eqb (getD tg 0 0) 0xE0) Reply Request
+
+-- the block rule for a reader: the centre takes only a block that names somebody
+unfoldable pub goodFor : Reader → List ℕ → Bool
+goodFor Station b = goodBlock b
+goodFor Centre b = goodBlock b && ltb 0 (length (stations b))
+
+-- 5 for the block, then 6 for the mark
+unfoldable pub judged : Reader → Head → Reading
+judged who h = pick (not (goodFor who (h .block))) (faulty 5) (pick (not (markAgrees h)) (faulty 6) (sound h))
+
+-- the four entries are the block
+unfoldable pub standardReading : Reader → List ℕ → Reading
+standardReading who tg = judged who (head (functionAt tg) (getD tg 1 0) Standard (take 4 (drop 2 tg)))
+
+-- the four entries are the mark, a count follows, and so many entries are the block: 2, 4 for the count, 2
+abbrev pub countAt : List ℕ → ℕ
+countAt tg = getD tg 6 0
+
+unfoldable pub extendedReading : Reader → List ℕ → Reading
+extendedReading who tg =
+    pick (ltb (length tg) 7) (faulty 2)
+    (pick (not (leb 2 (countAt tg) && leb (countAt tg) 32)) (faulty 4)
+    (pick (ltb (length tg) (7 + countAt tg)) (faulty 2)
+    (judged who (head (functionAt tg) (getD tg 1 0) (Extended (getD tg 2 0)) (take (countAt tg) (drop 7 tg))))))
+
+-- the most bytes of a telegram
+abbrev pub maxTelegram : ℕ
+maxTelegram = 1024
+
+-- 12, 2, 3, then by the form
+unfoldable pub reading : Reader → List ℕ → Reading
+reading who tg =
+    pick (ltb maxTelegram (length tg)) (faulty 12)
+    (pick (ltb (length tg) 6) (faulty 2)
+    (pick (not (allowed who (getD tg 0 0))) (faulty 3)
+    (pick (isMark (functionAt tg) (getD tg 2 0) (getD tg 3 0) (getD tg 4 0) (getD tg 5 0)) (extendedReading who tg)
+    (standardReading who tg))))
