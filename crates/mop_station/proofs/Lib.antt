@@ -1,0 +1,4 @@
+pub mod Bodies
+pub mod Stores
+pub mod Answers
+pub mod Telegrams

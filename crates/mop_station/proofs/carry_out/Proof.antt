@@ -1,0 +1,127 @@
+-- `carry_out`: 11, or the registers written and the reply sent.
+-- Assumes nothing.
+use lib.ListN.{length}
+use Rattle.registers.specs.Rows.{tableLength}
+use mathlib.Core.Path.{_≡_, sym, _∙_, ap}
+use mathlib.Core.List.{List}
+use Prim.Native.Nat.{ℕ}
+use native.Mathlib.Omega.{arith}
+use native.Mathlib.Nat.{sub-zero}
+use Rattle.registers.proofs.Places.{table-length}
+use Rattle.registers.proofs.Runs.{run-bound}
+use Rattle.mop_header.specs.Header.{Head, headOf, headerLength}
+use Rattle.mop_header.specs.Reading.{fine}
+use Rattle.mop_station.specs.Body.{readStart, readCount, judgedBody}
+use Rattle.mop_station.proofs.Bodies.{accepted}
+use Rattle.mop_station.proofs.Answers.{write-room, read-room, answer-short, answer-sent}
+use borrow.Author.Needs.{needs}
+use Rattle.mop_station.proofs.carry_out.Statement.{statement}
+use Rattle.mop_station.proofs.carry_out.Tie as tie
+
+reply-header-requires : tie.Need-reply-header-requires
+reply-header-requires c κs = search needs
+
+shared-slice-read-count : tie.Need-shared-slice-read-count
+shared-slice-read-count c =
+    let body = c .before .before .before .before .before .args .body .now in
+    let fine-body : judgedBody body ≡ fine = search needs in
+    let a = accepted body fine-body in
+    omega (arith, a .long)
+
+cast-n : tie.Need-cast-n
+cast-n c = omega (arith, c .shared-slice-known2 .given 2)
+
+mul-n : tie.Need-mul-n
+mul-n c = omega (arith, c .shared-slice-known2 .given 2)
+
+add-n : tie.Need-add-n
+add-n c = omega (arith, c .shared-slice-known2 .given 2)
+
+length-requires : tie.Need-length-requires
+length-requires c κs = search needs
+
+add-if1 : tie.Need-add-if1
+add-if1 c = omega (arith, c .before .shared-slice-known2 .given 2)
+
+returns : tie.Need-returns
+returns c =
+    let body = c .before .before .before .before .before .before .before .args .body .now in
+    let fine-body : judgedBody body ≡ fine = search needs in
+    let a = accepted body fine-body in
+    let s = c .before .before .before .before .before .before .before .args in
+    let size = c .before .length .ensures .0 ∙ ap headerLength (c .before .before .before .reply-header .ensures) in
+    sym (answer-short body a (headOf (s .header)) (s .registers .now) (s .out .now) (omega (arith, size)))
+
+write-registers-requires : tie.Need-write-registers-requires
+write-registers-requires c κs =
+    let body = c .before .before .before .before .before .before .before .before .args .body .now in
+    let fine-body : judgedBody body ≡ fine = search needs in
+    let a = accepted body fine-body in
+    (omega (arith, a .long), omega (arith, write-room body a))
+
+reply-body-requires : tie.Need-reply-body-requires
+reply-body-requires c κs =
+    let body = c .before .before .before .before .before .before .before .before .before .before .before .before .args .body .now in
+    let fine-body : judgedBody body ≡ fine = search needs in
+    let a = accepted body fine-body in
+    (omega (arith, a .long), (run-bound (readStart body) (readCount body) (a .readable), omega (arith, read-room body a, c .before .before .before .write-registers .kept .1 .0)))
+
+sub-write : tie.Need-sub-write
+sub-write c = search needs
+
+part-write-start : tie.Need-part-write-start
+part-write-start c = search needs
+
+part-write-end : tie.Need-part-write-end
+part-write-end c =
+    let body = c .before .before .before .before .before .before .before .before .before .before .before .before .before .before .args .body .now in
+    let fine-body : judgedBody body ≡ fine = search needs in
+    let a = accepted body fine-body in
+    omega (arith, run-bound (readStart body) (readCount body) (a .readable))
+
+write-requires : tie.Need-write-requires
+write-requires c κs = search needs
+
+handled-requires : tie.Need-handled-requires
+handled-requires c κs = search needs
+
+same-length : tie.Need-same-length
+same-length c = search needs
+
+same-length-2 : tie.Need-same-length-2
+same-length-2 c = search needs
+
+returns-2 : tie.Need-returns-2
+returns-2 c =
+    let body = c .before .before .before .before .before .before .before .before .before .before .before .before .before .before .before .before .before .before .before .before .args .body .now in
+    let fine-body : judgedBody body ≡ fine = search needs in
+    let a = accepted body fine-body in
+    let s = c .before .before .before .before .before .before .before .before .before .before .before .before .before .before .before .before .before .before .before .before .args in
+    let size = c .before .before .before .before .before .before .before .before .before .before .before .before .before .before .length .ensures .0 ∙ ap headerLength (c .before .before .before .before .before .before .before .before .before .before .before .before .before .before .before .before .reply-header .ensures) in
+    let long : length (s .registers .now) ≡ tableLength = search needs in
+    let sent = rw (c .before .before .before .before .before .before .before .before .before .before .before .before .before .before .before .before .reply-header .ensures, sub-zero) at (c .before .before .before .write .ensures) in
+    rw (c .handled .ensures)
+    (answer-sent body a (headOf (s .header)) (s .registers .now) (s .out .now) long (omega (arith, size)) (c .before .before .before .before .before .before .before .before .before .before .before .write-registers .ensures) (c .before .before .before .before .before .before .before .reply-body .ensures) sent)
+
+pub carry-out-spec : {M : Type 1} → statement M
+carry-out-spec =
+    tie.close
+    (tie.spec
+    reply-header-requires
+    shared-slice-read-count
+    cast-n
+    mul-n
+    add-n
+    length-requires
+    add-if1
+    returns
+    write-registers-requires
+    reply-body-requires
+    sub-write
+    part-write-start
+    part-write-end
+    write-requires
+    handled-requires
+    same-length
+    same-length-2
+    returns-2)

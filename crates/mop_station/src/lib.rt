@@ -1,0 +1,276 @@
+// What a station does with a telegram: it relays it, or carries it out and answers.
+use mop_header::Function;
+use mop_header::Header;
+use mop_header::Reader;
+use mop_header::Verdict;
+use refusal::Refusal;
+use refusal::WriteAnswer;
+use registers::TABLE_LENGTH;
+ghost use mathlib.Core.Path.{_≡_};
+ghost use Prim.Native.Nat.{_+_, _*_, _≤_};
+ghost use lib.ListN.{length, take, drop};
+ghost use lib.Seq.{sets};
+ghost use Rattle.base.specs.Words.{word, wordsOf, bytesOf};
+ghost use Rattle.base.specs.Filling.{fitted};
+ghost use Rattle.refusal.specs.Writing.{givenOf, fillingOf};
+ghost use Rattle.registers.specs.Rows.{placeOf, tableLength};
+ghost use Rattle.mop_block.specs.Block.{next};
+ghost use Rattle.mop_header.specs.Header.{headOf, headerLength, telegramOf};
+ghost use Rattle.mop_header.specs.Reading.{fine, findingOf};
+ghost use Rattle.mop_station.specs.Body.{readStart, readCount, writeStart, valuesOf, judgedRuns, judgedBody, readBack};
+ghost use Rattle.mop_station.specs.Station.{handledOf, handledBy, handlingOf, relayed, replied, answering, taking, hearing, handling};
+
+// What handling a telegram gives: the length of what was sent, "not mine", or a refusal.
+pub enum StationAnswer {
+    Sent(usize),
+    NotMine,
+    Refused(Refusal),
+}
+
+// A two-byte number.
+fn word_of(high: u8, low: u8) -> u16
+    ensures { λ r. ⌜ r ≡ word high low ⌝ }
+{
+    high as u16 * 256 + low as u16
+}
+
+// The header that a relay sends on.
+fn relayed_header(header: Header) -> Header
+    ensures { λ r. ⌜ headOf r ≡ relayed (header .function) (headOf header) ⌝ }
+{
+    let function = header.function;
+    match function {
+        Function::Request => header.rolled_left(),
+        Function::Reply => {
+            let rolled = header.rolled_right();
+            rolled.remarked()
+        }
+    }
+}
+
+// Sends the telegram on. The registers are not in reach here.
+fn relay(header: Header, body: &[u8], out: &mut [u8]) -> WriteAnswer
+    ensures { λ r. ⌜ fillingOf r (now (out .exit)) ≡ fitted (telegramOf (relayed (header .function) (headOf header)) (now (body .entry))) (now (out .entry)) ⌝ }
+{
+    let sent = relayed_header(header);
+    mop_header::write(sent, body, &mut *out)
+}
+
+// What writing the telegram gives is what the station gives.
+fn handled(answer: WriteAnswer) -> StationAnswer
+    ensures { λ r. ⌜ handledOf r ≡ handledBy (givenOf answer) ⌝ }
+{
+    match answer {
+        WriteAnswer::Written(n) => StationAnswer::Sent(n),
+        WriteAnswer::Refused(r) => StationAnswer::Refused(r),
+    }
+}
+
+// The header of a destination's reply.
+fn reply_header(header: Header) -> Header
+    ensures { λ r. ⌜ headOf r ≡ replied (headOf header) ⌝ }
+{
+    let form = header.form;
+    let entries = header.entries;
+    let reply = Header {
+        function: Function::Reply,
+        control: 0xFF,
+        form,
+        count: header.count,
+        entries,
+    };
+    let rolled = reply.rolled_right();
+    rolled.remarked()
+}
+
+// Whether a destination accepts the runs of a request, or why not.
+fn judge_runs(rstart: u16, reads: u8, wstart: u16, writes: u8, values: &[u8]) -> Verdict
+    ensures { λ r. ⌜ findingOf r ≡ judgedRuns rstart reads wstart writes (wordsOf (now (values .entry))) ⌝ }
+{
+    if !registers::run_exists(rstart, reads) {
+        return Verdict::Fault(Refusal::NoRegister);
+    }
+    if !registers::run_exists(wstart, writes) {
+        return Verdict::Fault(Refusal::NoRegister);
+    }
+    if !registers::run_may_write(wstart, writes) {
+        return Verdict::Fault(Refusal::NoWrite);
+    }
+    if !registers::run_takes(wstart, values) {
+        return Verdict::Fault(Refusal::ValueRange);
+    }
+    Verdict::Fine
+}
+
+// Whether a destination accepts a body, or why not.
+fn judge_body(body: &[u8]) -> Verdict
+    ensures { λ r. ⌜ findingOf r ≡ judgedBody (now (body .entry)) ⌝ }
+{
+    let n = body.len();
+    if n < 6 {
+        return Verdict::Fault(Refusal::BodyLength);
+    }
+    let writes = body[5];
+    if n != 6 + 2 * writes as usize {
+        return Verdict::Fault(Refusal::BodyLength);
+    }
+    let rstart = word_of(body[0], body[1]);
+    let wstart = word_of(body[3], body[4]);
+    judge_runs(rstart, body[2], wstart, writes, &body[6..n])
+}
+
+// Stores the numbers that the bytes hold to the places of a table from `at` on.
+fn store_words(bytes: &[u8], table: &mut [u16], at: usize)
+    requires { ⌜ at + length (wordsOf (now bytes)) ≤ length (now table) ⌝ }
+    ensures { λ r. ⌜ now (table .exit) ≡ sets (now (table .entry)) at (wordsOf (now (bytes .entry))) ⌝ }
+{
+    let mut place = at;
+    let mut i: usize = 0;
+    while 1 < bytes.len() - i {
+        table[place] = word_of(bytes[i], bytes[i + 1]);
+        place += 1;
+        i += 2;
+    }
+}
+
+// Writes the bytes of numbers to the places of out from `at` on.
+fn put_words(words: &[u16], out: &mut [u8], at: usize)
+    requires { ⌜ at + 2 * length (now words) ≤ length (now out) ⌝ }
+    ensures { λ r. ⌜ now (out .exit) ≡ sets (now (out .entry)) at (bytesOf (now (words .entry))) ⌝ }
+{
+    let mut place = at;
+    let mut i: usize = 0;
+    while i < words.len() {
+        let n = words[i];
+        i += 1;
+        out[place] = (n / 256) as u8;
+        out[place + 1] = (n % 256) as u8;
+        place += 2;
+    }
+}
+
+// All the writes of a body, from the place of its write start on.
+fn write_registers(body: &[u8], registers: &mut [u16])
+    requires { ⌜ 6 ≤ length (now body) ⌝ }
+    requires { ⌜ placeOf (writeStart (now body)) + length (valuesOf (now body)) ≤ length (now registers) ⌝ }
+    ensures { λ r. ⌜ now (registers .exit) ≡ sets (now (registers .entry)) (placeOf (writeStart (now (body .entry)))) (valuesOf (now (body .entry))) ⌝ }
+{
+    let n = body.len();
+    let start = word_of(body[3], body[4]);
+    let at = registers::place_of(start as usize);
+    store_words(&body[6..n], &mut *registers, at);
+}
+
+// The longest body of a reply.
+const REPLY_BODY: usize = 19;
+
+// The body of the reply in the first places: the values stand from the place of the body's read start on.
+fn reply_body(body: &[u8], registers: &[u16]) -> [u8; REPLY_BODY]
+    requires { ⌜ 6 ≤ length (now body) ⌝ }
+    requires { ⌜ readCount (now body) ≤ 8 ⌝ }
+    requires { ⌜ placeOf (readStart (now body)) + readCount (now body) ≤ length (now registers) ⌝ }
+    ensures { λ r. ⌜ take (3 + 2 * readCount (now (body .entry))) r ≡ readBack (now (body .entry)) (take (readCount (now (body .entry))) (drop (placeOf (readStart (now (body .entry)))) (now (registers .entry)))) ⌝ }
+{
+    let start = word_of(body[0], body[1]);
+    let count = body[2];
+    let at = registers::place_of(start as usize);
+    let end = at + count as usize;
+    let mut reply = [0u8; REPLY_BODY];
+    reply[0] = body[0];
+    reply[1] = body[1];
+    reply[2] = count;
+    put_words(&registers[at..end], &mut reply, 3);
+    reply
+}
+
+// Carries out a body that is accepted, and answers: 11, or all the writes, then the reads.
+fn carry_out(header: Header, body: &[u8], registers: &mut [u16], out: &mut [u8]) -> StationAnswer
+    requires { ⌜ judgedBody (now body) ≡ fine ⌝ }
+    requires { ⌜ length (now registers) ≡ tableLength ⌝ }
+    ensures { λ r. ⌜ handlingOf r (now (registers .exit)) (now (out .exit)) ≡ answering fine (headOf header) (now (body .entry)) (now (registers .entry)) (now (out .entry)) ⌝ }
+{
+    let reply = reply_header(header);
+    let count = body[2];
+    let n = 3 + 2 * count as usize;
+    if out.len() < reply.length() + n {
+        return StationAnswer::Refused(Refusal::OutputShort);
+    }
+    write_registers(body, &mut *registers);
+    let values = reply_body(body, &*registers);
+    let answer = mop_header::write(reply, &values[0..n], &mut *out);
+    handled(answer)
+}
+
+// A destination: its refusals, or what it carries out.
+fn answer(header: Header, body: &[u8], registers: &mut [u16], out: &mut [u8]) -> StationAnswer
+    requires { ⌜ length (now registers) ≡ tableLength ⌝ }
+    ensures { λ r. ⌜ handlingOf r (now (registers .exit)) (now (out .exit)) ≡ answering (judgedBody (now (body .entry))) (headOf header) (now (body .entry)) (now (registers .entry)) (now (out .entry)) ⌝ }
+{
+    match judge_body(body) {
+        Verdict::Fault(r) => StationAnswer::Refused(r),
+        Verdict::Fine => carry_out(header, body, &mut *registers, &mut *out),
+    }
+}
+
+// A telegram for this station: it is the destination of a request if the entry behind its own is 00, and else a relay.
+fn take_telegram(
+    header: Header,
+    body: &[u8],
+    registers: &mut [u16],
+    out: &mut [u8],
+) -> StationAnswer
+    requires { ⌜ length (now registers) ≡ tableLength ⌝ }
+    ensures { λ r. ⌜ handlingOf r (now (registers .exit)) (now (out .exit)) ≡ taking (header .function) (next (headOf header .block)) (headOf header) (now (body .entry)) (now (registers .entry)) (now (out .entry)) ⌝ }
+{
+    let function = header.function;
+    match function {
+        Function::Request => {
+            if header.next() == 0 {
+                return answer(header, body, &mut *registers, &mut *out);
+            }
+            handled(relay(header, body, &mut *out))
+        }
+        Function::Reply => handled(relay(header, body, &mut *out)),
+    }
+}
+
+// A telegram with a header in order: the first entry says whose it is.
+fn hear(
+    own: u8,
+    header: Header,
+    telegram: &[u8],
+    registers: &mut [u16],
+    out: &mut [u8],
+) -> StationAnswer
+    requires { ⌜ headerLength (headOf header) ≤ length (now telegram) ⌝ }
+    requires { ⌜ length (now registers) ≡ tableLength ⌝ }
+    ensures { λ r. ⌜ handlingOf r (now (registers .exit)) (now (out .exit)) ≡ hearing fine own (headOf header) (now (telegram .entry)) (now (registers .entry)) (now (out .entry)) ⌝ }
+{
+    if header.first() != own {
+        return StationAnswer::NotMine;
+    }
+    let at = header.length();
+    let n = telegram.len();
+    take_telegram(header, &telegram[at..n], &mut *registers, &mut *out)
+}
+
+// One telegram at a station. What is sent fills the first places of out; the other places keep their values.
+// Refused, and registers and out as they were: 1 for the own address or the table's length; 12, 2, 3, 4, 5, 6 for the
+// header; at the destination 7, 8, 9, 10 for the body; 11 for an output that is too short for what is to be sent.
+pub fn handle(own: u8, registers: &mut [u16], telegram: &[u8], out: &mut [u8]) -> StationAnswer
+    ensures { λ r. ⌜ handlingOf r (now (registers .exit)) (now (out .exit)) ≡ handling own (now (registers .entry)) (now (telegram .entry)) (now (out .entry)) ⌝ }
+{
+    if !mop_block::is_address(own) {
+        return StationAnswer::Refused(Refusal::Setup);
+    }
+    if registers.len() != TABLE_LENGTH {
+        return StationAnswer::Refused(Refusal::Setup);
+    }
+    let read = mop_header::read(Reader::Station, telegram);
+    let header = read.header;
+    let verdict = read.verdict;
+    match verdict {
+        Verdict::Fault(r) => StationAnswer::Refused(r),
+        Verdict::Fine => hear(own, header, telegram, &mut *registers, &mut *out),
+    }
+}
