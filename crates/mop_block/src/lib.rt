@@ -67,7 +67,7 @@ fn zero_ends(b: &[u8]) -> usize
 }
 
 // Whether every entry that is not 00 is an address, and no two of these are equal.
-pub fn distinct_stations(b: &[u8]) -> bool
+fn distinct_stations(b: &[u8]) -> bool
     ensures { λ r. ⌜ r ≡ distinctAddresses (stations (now (b .entry))) ⌝ }
 {
     let mut i: usize = 0;

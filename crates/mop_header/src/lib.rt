@@ -20,7 +20,7 @@ ghost use Rattle.mop_header.specs.Reading.{readingOf, faulty, allowed, g
 const MARK: u8 = 0xEF;
 
 // The most bytes of a telegram.
-pub const MAX_TELEGRAM: usize = 1024;
+const MAX_TELEGRAM: usize = 1024;
 
 // The most entries of a block.
 const MAX_ENTRIES: usize = 32;

@@ -5,6 +5,7 @@ use mop_header::Reader;
 use mop_header::Verdict;
 use refusal::Refusal;
 use refusal::WriteAnswer;
+use registers::LONGEST_RUN;
 use registers::TABLE_LENGTH;
 ghost use mathlib.Core.Path.{_≡_};
 ghost use Prim.Native.Nat.{_+_, _*_, _≤_};
@@ -161,8 +162,8 @@ fn write_registers(body: &[u8], registers: &mut [u16])
     store_words(&body[6..n], &mut *registers, at);
 }
 
-// The longest body of a reply.
-const REPLY_BODY: usize = 19;
+// The longest body of a reply: read start, read count, and the values of the longest run.
+const REPLY_BODY: usize = 3 + 2 * LONGEST_RUN;
 
 // The body of the reply in the first places: the values stand from the place of the body's read start on.
 fn reply_body(body: &[u8], registers: &[u16]) -> [u8; REPLY_BODY]
