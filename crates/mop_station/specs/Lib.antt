@@ -1,2 +1,3 @@
 pub mod Body
 pub mod Station
+pub mod Safety

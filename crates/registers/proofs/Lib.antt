@@ -1,5 +1,5 @@
 pub mod Tests
 pub mod Places
-pub mod Entries
+pub mod Agreement
 pub mod Runs
 pub mod Values

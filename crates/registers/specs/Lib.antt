@@ -1,3 +1,3 @@
 pub mod Rows
 pub mod Runs
-pub mod Entries
+pub mod Agreement

@@ -28,33 +28,33 @@ no = false
 abbrev pub any : ℕ → Bool
 any v = true
 
-abbrev pub upTo : ℕ → ℕ → ℕ → Bool
-upTo least most v = leb least v && leb v most
+abbrev pub fromTo : ℕ → ℕ → ℕ → Bool
+fromTo least most v = leb least v && leb v most
 
-abbrev pub orOff : (ℕ → Bool) → ℕ → Bool
-orOff range v = range v || eqb v 65535
+abbrev pub or65535 : (ℕ → Bool) → ℕ → Bool
+or65535 range v = range v || eqb v 65535
 
 -- the table, in the order of the numbers; a time of day has its hour in the high byte and its minute in the low one
 abbrev pub rows : List Row
 rows =
     row 2 no any 0
-    ∷ row 300 yes (upTo 0 3) 0
+    ∷ row 300 yes (fromTo 0 3) 0
     ∷ row 931 no any 0
     ∷ row 932 no any 0
     ∷ row 933 no any 0
     ∷ row 934 no any 0
     ∷ row 935 no any 0
     ∷ row 936 no any 0
-    ∷ row 952 yes (upTo 1 1440) 15
-    ∷ row 953 yes (upTo 2 25) 2
-    ∷ row 955 yes (upTo 0 5947) 0
-    ∷ row 956 yes (upTo 0 59) 0
-    ∷ row 957 yes (orOff (upTo 0 5947)) 65535
-    ∷ row 958 yes (upTo 1 1440) 30
-    ∷ row 959 yes (orOff (upTo 1 3600)) 60
-    ∷ row 960 yes (upTo 1 1440) 15
-    ∷ row 961 yes (upTo 1 1440) 30
-    ∷ row 962 yes (upTo 0 1) 0
+    ∷ row 952 yes (fromTo 1 1440) 15
+    ∷ row 953 yes (fromTo 2 25) 2
+    ∷ row 955 yes (fromTo 0 5947) 0
+    ∷ row 956 yes (fromTo 0 59) 0
+    ∷ row 957 yes (or65535 (fromTo 0 5947)) 65535
+    ∷ row 958 yes (fromTo 1 1440) 30
+    ∷ row 959 yes (or65535 (fromTo 1 3600)) 60
+    ∷ row 960 yes (fromTo 1 1440) 15
+    ∷ row 961 yes (fromTo 1 1440) 30
+    ∷ row 962 yes (fromTo 0 1) 0
     ∷ []
 
 -- the number of rows, which is the length of a station's table of values

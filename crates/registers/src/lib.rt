@@ -3,7 +3,7 @@ ghost use mathlib.Core.Path.{_≡_};
 ghost use Rattle.base.specs.Words.{wordsOf};
 ghost use Rattle.registers.specs.Rows.{placeOf, mayWrite, takes, factory};
 ghost use Rattle.registers.specs.Runs.{runExists, runMayWrite, runTakes};
-ghost use Rattle.registers.specs.Entries.{Agrees};
+ghost use Rattle.registers.specs.Agreement.{Agrees};
 
 // The length of a station's table of values.
 pub const TABLE_LENGTH: usize = 18;
@@ -13,32 +13,32 @@ pub const LONGEST_RUN: usize = 8;
 
 // A register: its place, whether it takes writes, the least and the largest value in its range, and whether 65535 is
 // in its range besides.
-struct Entry(usize, bool, u16, u16, bool);
+struct Register(usize, bool, u16, u16, bool);
 
 // The register of a number. A number that no register has gets the place TABLE_LENGTH, and takes nothing.
-fn entry_of(number: usize) -> Entry
+fn register_of(number: usize) -> Register
     ensures { λ r. ⌜ Agrees r number ⌝ }
 {
     match number {
-        2 => Entry(0, false, 0, 65535, false),
-        300 => Entry(1, true, 0, 3, false),
-        931 => Entry(2, false, 0, 65535, false),
-        932 => Entry(3, false, 0, 65535, false),
-        933 => Entry(4, false, 0, 65535, false),
-        934 => Entry(5, false, 0, 65535, false),
-        935 => Entry(6, false, 0, 65535, false),
-        936 => Entry(7, false, 0, 65535, false),
-        952 => Entry(8, true, 1, 1440, false),
-        953 => Entry(9, true, 2, 25, false),
-        955 => Entry(10, true, 0, 5947, false),
-        956 => Entry(11, true, 0, 59, false),
-        957 => Entry(12, true, 0, 5947, true),
-        958 => Entry(13, true, 1, 1440, false),
-        959 => Entry(14, true, 1, 3600, true),
-        960 => Entry(15, true, 1, 1440, false),
-        961 => Entry(16, true, 1, 1440, false),
-        962 => Entry(17, true, 0, 1, false),
-        _ => Entry(TABLE_LENGTH, false, 1, 0, false),
+        2 => Register(0, false, 0, 65535, false),
+        300 => Register(1, true, 0, 3, false),
+        931 => Register(2, false, 0, 65535, false),
+        932 => Register(3, false, 0, 65535, false),
+        933 => Register(4, false, 0, 65535, false),
+        934 => Register(5, false, 0, 65535, false),
+        935 => Register(6, false, 0, 65535, false),
+        936 => Register(7, false, 0, 65535, false),
+        952 => Register(8, true, 1, 1440, false),
+        953 => Register(9, true, 2, 25, false),
+        955 => Register(10, true, 0, 5947, false),
+        956 => Register(11, true, 0, 59, false),
+        957 => Register(12, true, 0, 5947, true),
+        958 => Register(13, true, 1, 1440, false),
+        959 => Register(14, true, 1, 3600, true),
+        960 => Register(15, true, 1, 1440, false),
+        961 => Register(16, true, 1, 1440, false),
+        962 => Register(17, true, 0, 1, false),
+        _ => Register(TABLE_LENGTH, false, 1, 0, false),
     }
 }
 
@@ -46,21 +46,21 @@ fn entry_of(number: usize) -> Entry
 pub fn place_of(number: usize) -> usize
     ensures { λ r. ⌜ r ≡ placeOf number ⌝ }
 {
-    entry_of(number).0
+    register_of(number).0
 }
 
 // Whether a register takes writes.
 fn may_write(number: usize) -> bool
     ensures { λ r. ⌜ r ≡ mayWrite number ⌝ }
 {
-    entry_of(number).1
+    register_of(number).1
 }
 
 // Whether a value is in a register's range.
 fn takes(number: usize, value: u16) -> bool
     ensures { λ r. ⌜ r ≡ takes number value ⌝ }
 {
-    let e = entry_of(number);
+    let e = register_of(number);
     ((e.2 <= value) & (value <= e.3)) | (e.4 & (value == 65535))
 }
 

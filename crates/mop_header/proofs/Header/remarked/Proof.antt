@@ -1,6 +1,9 @@
 -- `remarked`: the mark goes by the function and the first entry.
 -- Assumes nothing.
-use Rattle.mop_header.specs.Header.{remarked}
+use mathlib.Core.Path.{_∙_, ap}
+use lib.ListN.{take}
+use Rattle.mop_header.specs.Header.{head, markOf, withMark, remarked}
+use Rattle.mop_header.specs.declared.Form.{Form}
 use borrow.Author.Needs.{needs}
 use Rattle.mop_header.proofs.Header.remarked.Statement.{statement}
 use Rattle.mop_header.proofs.Header.remarked.Tie as tie
@@ -16,7 +19,10 @@ with-mark-requires c κs = search needs
 
 returns : tie.Need-returns
 unfolding remarked
-returns c = rw (c .with-mark .ensures, c .before .mark-of .ensures, c .before .before .first .ensures)
+returns c =
+    let h = c .before .before .before .before .args .self in
+    let mark = c .before .mark-of .ensures ∙ ap (markOf (h .function)) (c .before .before .first .ensures) in
+    ap (λ (m : Form). head (h .function) (h .control) m (take (h .count) (h .entries))) (c .with-mark .ensures ∙ ap (withMark (h .form)) mark)
 
 pub remarked-spec : {M : Type 1} → statement M
 remarked-spec = tie.close (tie.spec first-requires mark-of-requires with-mark-requires returns)

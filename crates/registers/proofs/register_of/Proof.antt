@@ -1,10 +1,10 @@
--- `entry_of`: each entry agrees with the row of its number, and the last one with every number that has no row.
+-- `register_of`: each register agrees with the row of its number, and the last arm with every number that has no row.
 -- Assumes nothing.
 use mathlib.Core.Path.{refl}
 use Rattle.registers.specs.Rows.{tableLength, placeOf, mayWrite, takes}
-use Rattle.registers.proofs.Entries.{agrees, none-agrees}
-use Rattle.registers.proofs.entry_of.Statement.{statement}
-use Rattle.registers.proofs.entry_of.Tie as tie
+use Rattle.registers.proofs.Agreement.{agrees, none-agrees}
+use Rattle.registers.proofs.register_of.Statement.{statement}
+use Rattle.registers.proofs.register_of.Tie as tie
 
 returns : tie.Need-returns
 unfolding placeOf mayWrite takes
@@ -82,8 +82,8 @@ returns-19 : tie.Need-returns-19
 unfolding tableLength
 returns-19 c = none-agrees _ (c .match .rest)
 
-pub entry-of-spec : {M : Type 1} → statement M
-entry-of-spec =
+pub register-of-spec : {M : Type 1} → statement M
+register-of-spec =
     tie.close
     (tie.spec
     returns
