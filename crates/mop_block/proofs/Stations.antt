@@ -8,7 +8,7 @@ use native.Mathlib.Omega.{arith}
 use lib.Dec.{eqb·zero-suc}
 use lib.ListN.{length}
 use Rattle.mop_block.specs.Block.{has, stations, goodBlock}
-use Rattle.mop_block.specs.Zipper.{zeros, spread, home, Full, nil, cons}
+use Rattle.mop_block.specs.Zipper.{zeros, spread, returned, Full, nil, cons}
 use Rattle.mop_block.proofs.Counts.{good-parts}
 
 pub full-append : {xs ys : List ℕ} → Full xs → Full ys → Full (xs ++ ys)
@@ -38,9 +38,9 @@ unfolding stations
 stations-spread {ahead} {passed} z f g =
     rw (stations-append f (0 ∷ (zeros z ++ passed)), stations-zeros z passed, stations-full g)
 
-pub stations-home : {ahead : List ℕ} (z : ℕ) → Full ahead → stations (home ahead z) ≡ ahead
+pub stations-returned : {ahead : List ℕ} (z : ℕ) → Full ahead → stations (returned ahead z) ≡ ahead
 unfolding stations
-stations-home {ahead} z f =
+stations-returned {ahead} z f =
     rw (stations-append f (zeros z), ← append-nil (zeros z), stations-zeros z [], append-nil ahead)
 
 -- a block with a 00 names fewer stations than it has entries

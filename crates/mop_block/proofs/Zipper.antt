@@ -8,8 +8,8 @@ use native.Mathlib.Omega.{arith}
 use lib.Dec.{eqb, eqb·zero-suc, eqb·suc-zero}
 use borrow.Author.Tests.{leb-true, le-leb}
 use Rattle.mop_block.specs.Block.{isAddress, has, zeroEnds, around, first}
-use Rattle.mop_block.specs.Zipper.{zeros, spread, home, Full, nil, cons, one, count, Once, Zipper}
-use Rattle.mop_block.specs.Zipper.{HasView, ViewIsGood, HomeIsGood, LeftMoves, RightMoves, RightHome}
+use Rattle.mop_block.specs.Zipper.{zeros, spread, returned, Full, nil, cons, one, count, Once, Zipper}
+use Rattle.mop_block.specs.Zipper.{HasView, ViewIsGood, ReturnedIsGood, LeftMoves, RightMoves, RightReturns}
 use Rattle.mop_block.proofs.Rolls.{left-cons, right-snoc}
 use Rattle.mop_block.proofs.Counts.{good-parts, parts-good, count-append, count-zeros, good-once, once-distinct}
 use Rattle.mop_block.proofs.Ends.{ends-single, ends-station, ends-full, ends-zeros, ends-run, ends-more}
@@ -30,8 +30,8 @@ zeros-snoc (suc n) = ap (λ (l : List ℕ). 0 ∷ l) (zeros-snoc n)
 last-zero : (ahead : List ℕ) (z : ℕ) → spread ahead z [] ≡ (ahead ++ zeros z) ++ (0 ∷ [])
 last-zero ahead z = rw (append-nil (zeros z), append-assoc) (ap (λ (l : List ℕ). ahead ++ l) (zeros-snoc z))
 
-pub right-home : RightHome
-right-home ahead z = rw (last-zero ahead z, right-snoc)
+pub right-returns : RightReturns
+right-returns ahead z = rw (last-zero ahead z, right-snoc)
 
 -- the same stations in another order
 module _ (ahead : List ℕ) (z : ℕ) (passed : List ℕ) where
@@ -44,8 +44,8 @@ module _ (ahead : List ℕ) (z : ℕ) (passed : List ℕ) where
   pub once-parts : {b : List ℕ} → b ≡ spread ahead z passed → Once b → Once (passed ++ ahead)
   once-parts e o a = subst (λ (n : ℕ). n ≤ one (isAddress (suc a))) (ap (count (suc a)) e ∙ count-spread a) (o a)
 
-count-home : (a : ℕ) (ahead : List ℕ) (z : ℕ) → count (suc a) (home ahead z) ≡ count (suc a) ahead
-count-home a ahead z = simp (count-append, eqb·suc-zero, count-zeros) (omega arith)
+count-returned : (a : ℕ) (ahead : List ℕ) (z : ℕ) → count (suc a) (returned ahead z) ≡ count (suc a) ahead
+count-returned a ahead z = simp (count-append, eqb·suc-zero, count-zeros) (omega arith)
 
 -- a block of such parts is good
 has-behind : (xs ys : List ℕ) → has 0 (xs ++ (0 ∷ ys)) ≡ true
@@ -79,19 +79,19 @@ view-is-good ahead z passed f g o =
       distinct = once-distinct (spread ahead z passed) (once-spread ahead z passed o);
     })
 
-around-home : (ahead : List ℕ) (z : ℕ) → Full ahead → zeroEnds (around (home ahead z)) ≤ 1
+around-returned : (ahead : List ℕ) (z : ℕ) → Full ahead → zeroEnds (around (returned ahead z)) ≤ 1
 unfolding around
-around-home ahead z f =
-    let e : home ahead z ++ (0 ∷ []) ≡ 0 ∷ (ahead ++ (zeros (suc z))) = rw (zeros-snoc z) (simp append-assoc) in
+around-returned ahead z f =
+    let e : returned ahead z ++ (0 ∷ []) ≡ 0 ∷ (ahead ++ (zeros (suc z))) = rw (zeros-snoc z) (simp append-assoc) in
     rw e (one-end f 0 (zeros (suc z)) (ends-run z))
 
-pub home-is-good : HomeIsGood
-home-is-good ahead z f o =
+pub returned-is-good : ReturnedIsGood
+returned-is-good ahead z f o =
     parts-good
     (record {
       zero-in = has-behind [] (ahead ++ zeros z);
-      one-end = le-leb _ _ (around-home ahead z f);
-      distinct = once-distinct (home ahead z) (λ a. rw (count-home a ahead z) (o a));
+      one-end = le-leb _ _ (around-returned ahead z f);
+      distinct = once-distinct (returned ahead z) (λ a. rw (count-returned a ahead z) (o a));
     })
 
 -- what is behind the first 00: more of them, then stations

@@ -20,13 +20,13 @@ unfoldable pub distinctAddresses : List ℕ → Bool
 distinctAddresses [] = true
 distinctAddresses (a ∷ rest) = isAddress a && not (has a rest) && distinctAddresses rest
 
--- the stations that a block names: its entries that are not 00, in order
+-- the stations that a block names, m of them: its entries that are not 00, in order
 unfoldable pub stations : List ℕ → List ℕ
 stations [] = []
 stations (zero ∷ b) = stations b
 stations (suc a ∷ b) = suc a ∷ stations b
 
--- how often an entry 00 has one behind it that is not 00
+-- how often 00s end: an entry 00 is followed at once by one that is not 00
 unfoldable pub zeroEnds : List ℕ → ℕ
 zeroEnds [] = 0
 zeroEnds (x ∷ []) = 0
@@ -38,12 +38,12 @@ zeroEnds (suc a ∷ y ∷ b) = zeroEnds (y ∷ b)
 unfoldable pub around : List ℕ → List ℕ
 around b = b ++ take 1 b
 
--- the block rule: at least one 00; all 00s next to each other around the ring, so that they end once at most; every other
--- entry an address, and no two of these equal
+-- the block rule: it has a 00; going around, the 00s end once at most, so that they are one run in the ring; and its stations
+-- are different addresses
 unfoldable pub goodBlock : List ℕ → Bool
 goodBlock b = has 0 b && leb (zeroEnds (around b)) 1 && distinctAddresses (stations b)
 
--- the first entry, and the one behind it
+-- the first entry, and the next one
 unfoldable pub first : List ℕ → ℕ
 first b = getD b 0 0
 

@@ -1,4 +1,4 @@
--- A good block whose first entry is a station, taken apart: the stations ahead, the 00s, and the stations passed. Read around
+-- A good block that begins with a station, taken apart: the stations ahead, the 00s, and the stations passed. Read around
 -- the ring from the 00s on, the passed ones come first and the ones ahead after them; the last of these is the destination.
 -- Assumes nothing.
 use Prim.Native.Nat.{ℕ, suc, _+_, _≤_}
@@ -16,20 +16,21 @@ zeros n = replicate n 0
 abbrev pub spread : List ℕ → ℕ → List ℕ → List ℕ
 spread ahead z passed = ahead ++ (0 ∷ (zeros z ++ passed))
 
--- the block with 00 first and the stations behind it, as it comes home
-abbrev pub home : List ℕ → ℕ → List ℕ
-home ahead z = 0 ∷ (ahead ++ zeros z)
+-- the block with a 00 first, as it is back at the centre: the stations, and 00s up to the end
+abbrev pub returned : List ℕ → ℕ → List ℕ
+returned ahead z = 0 ∷ (ahead ++ zeros z)
 
 -- a list without a 00
 pub data Full : List ℕ → Type 0 where
   nil : Full []
   cons : {a : ℕ} {xs : List ℕ} → Full xs → Full (suc a ∷ xs)
 
--- how often a number stands in a list
+-- a test counted: 1 where it holds, else 0
 abbrev pub one : Bool → ℕ
 one true = 1
 one false = 0
 
+-- how often a number stands in a list
 abbrev pub count : ℕ → List ℕ → ℕ
 count a [] = 0
 count a (x ∷ xs) = one (eqb a x) + count a xs
@@ -38,7 +39,8 @@ count a (x ∷ xs) = one (eqb a x) + count a xs
 abbrev pub Once : List ℕ → Type 0
 Once b = (a : ℕ) → count (suc a) b ≤ one (isAddress (suc a))
 
--- the view of a block: its first entry is the first of the stations ahead
+-- the view of a block: the station that is first, those ahead behind it, the 00s, of which there is one more than gap, and
+-- those passed
 pub record Zipper (b : List ℕ) : Type 0 where
   pub here : ℕ
   pub ahead : List ℕ
@@ -49,16 +51,16 @@ pub record Zipper (b : List ℕ) : Type 0 where
   pub full-passed : Full passed
   pub once : Once (passed ++ suc here ∷ ahead)
 
--- a good block whose first entry is not 00 has the view
+-- every good block that begins with a station has the view
 abbrev pub HasView : Type 0
 HasView = (b : List ℕ) → goodBlock b ≡ true → (first b ≡ 0 → ⊥) → Zipper b
 
--- and every block with such parts is good, also where no station is ahead, and where it has come home
+-- and every block with such parts is good, also where no station is ahead, and where it is back at the centre
 abbrev pub ViewIsGood : Type 0
 ViewIsGood = (ahead : List ℕ) (z : ℕ) (passed : List ℕ) → Full ahead → Full passed → Once (passed ++ ahead) → goodBlock (spread ahead z passed) ≡ true
 
-abbrev pub HomeIsGood : Type 0
-HomeIsGood = (ahead : List ℕ) (z : ℕ) → Full ahead → Once ahead → goodBlock (home ahead z) ≡ true
+abbrev pub ReturnedIsGood : Type 0
+ReturnedIsGood = (ahead : List ℕ) (z : ℕ) → Full ahead → Once ahead → goodBlock (returned ahead z) ≡ true
 
 -- rolled left, the first station ahead becomes the last one passed
 abbrev pub LeftMoves : Type 0
@@ -68,5 +70,5 @@ LeftMoves = (a : ℕ) (ahead : List ℕ) (z : ℕ) (passed : List ℕ) → rollL
 abbrev pub RightMoves : Type 0
 RightMoves = (ahead : List ℕ) (z : ℕ) (passed : List ℕ) (a : ℕ) → rollRight (spread ahead z (passed ++ (a ∷ []))) ≡ spread (a ∷ ahead) z passed
 
-abbrev pub RightHome : Type 0
-RightHome = (ahead : List ℕ) (z : ℕ) → rollRight (spread ahead z []) ≡ home ahead z
+abbrev pub RightReturns : Type 0
+RightReturns = (ahead : List ℕ) (z : ℕ) → rollRight (spread ahead z []) ≡ returned ahead z

@@ -16,7 +16,7 @@ pub fn is_address(a: u8) -> bool
     a <= 0xF0
 }
 
-// Whether an entry stands at place from, or at one behind it.
+// Whether an entry stands at place from, or later.
 fn has_from(b: &[u8], from: usize, x: u8) -> bool
     ensures { λ r. ⌜ r ≡ has x (drop from (now (b .entry))) ⌝ }
 {
@@ -102,7 +102,7 @@ pub fn names_somebody(b: &[u8]) -> bool
     false
 }
 
-// The block rule: at least one 00, all 00s next to each other around the ring, and the other entries different addresses.
+// The block rule: a 00 in it, the 00s one run in the ring, and the stations different addresses.
 pub fn good_block(b: &[u8]) -> bool
     ensures { λ r. ⌜ r ≡ goodBlock (now (b .entry)) ⌝ }
 {

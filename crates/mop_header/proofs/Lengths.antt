@@ -7,7 +7,7 @@ use native.Mathlib.Omega.{arith}
 use lib.ListN.{length}
 use Rattle.mop_block.specs.Block.{first, rollLeft, rollRight}
 use Rattle.mop_block.proofs.Rolls.{length-left, length-right}
-use Rattle.mop_header.specs.Header.{Head, addressBytes, headerBytes, headerLength, markOf, withMark, remarked, rolledLeft, rolledRight}
+use Rattle.mop_header.specs.Header.{Head, addressBytes, headerBytes, headerLength, markByte, withMark, remarked, rolledLeft, rolledRight}
 use Rattle.mop_header.specs.declared.Form.{Form}
 use Rattle.mop_header.specs.declared.Form.the-variants.{Standard, Extended}
 
@@ -34,7 +34,7 @@ length-with (Extended m) k b = refl
 module _ (h : Head) where
   pub length-remarked : headerLength (remarked h) ≡ headerLength h
   unfolding headerLength headerBytes remarked
-  length-remarked = rw (length-with (h .form) (markOf (h .function) (first (h .block))) (h .block))
+  length-remarked = rw (length-with (h .form) (markByte (h .function) (first (h .block))) (h .block))
 
   pub length-rolled-left : headerLength (rolledLeft h) ≡ headerLength h
   unfolding headerLength headerBytes rolledLeft

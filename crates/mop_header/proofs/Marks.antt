@@ -8,22 +8,22 @@ use lib.Dec.{eqb}
 use lib.ListN.{getD}
 use borrow.Author.Tests.{eqb-true, eq-eqb, ne-eqb}
 use Rattle.mop_block.specs.Block.{first}
-use Rattle.mop_header.specs.Header.{Head, head, mayBegin, isMark, markOf, hasMark, withMark, markAgrees, remarked}
+use Rattle.mop_header.specs.Header.{Head, head, mayBegin, isMark, markByte, markIs, withMark, markAgrees, remarked}
 use Rattle.mop_header.specs.declared.Form.{Form}
 use Rattle.mop_header.specs.declared.Form.the-variants.{Standard, Extended}
 use Rattle.mop_header.specs.declared.Function.{Function}
 use Rattle.mop_header.specs.declared.Function.the-variants.{Request, Reply}
 
-pub mark-request : (a : ℕ) → markOf Request a ≡ 0xEF
-unfolding markOf
+pub mark-request : (a : ℕ) → markByte Request a ≡ 0xEF
+unfolding markByte
 mark-request a = refl
 
-pub mark-home : (a : ℕ) → a ≡ 0 → markOf Reply a ≡ 0x00
-unfolding markOf
+pub mark-home : (a : ℕ) → a ≡ 0 → markByte Reply a ≡ 0x00
+unfolding markByte
 mark-home a e = rw e
 
-pub mark-away : (a : ℕ) → (a ≡ 0 → ⊥) → markOf Reply a ≡ 0xEF
-unfolding markOf
+pub mark-away : (a : ℕ) → (a ≡ 0 → ⊥) → markByte Reply a ≡ 0xEF
+unfolding markByte
 mark-away zero n = absurd (n refl)
 mark-away (suc a) n = refl
 
@@ -68,37 +68,37 @@ module _ (a : ℕ) (other : a ≡ 0xEF → ⊥) where
   begins-reply = simp (ne-eqb _ _ other)
 
 -- a mark that was compared with what it has to be
-pub mark-decides : (f : Function) (c : ℕ) (m : Form) (b : List ℕ) {k : ℕ} {t : Bool} → k ≡ markOf f (getD b 0 0) → t ≡ hasMark m k →
+pub mark-decides : (f : Function) (c : ℕ) (m : Form) (b : List ℕ) {k : ℕ} {t : Bool} → k ≡ markByte f (getD b 0 0) → t ≡ markIs m k →
     t ≡ markAgrees (head f c m b)
 unfolding markAgrees first
-mark-decides f c m b e h = h ∙ ap (hasMark m) e
+mark-decides f c m b e h = h ∙ ap (markIs m) e
 
 -- the first byte that a mark has to have makes it one
-pub own-mark : (f : Function) (a : ℕ) → isMark f (markOf f a) 0xEF 0xEF 0xEF ≡ true
-unfolding isMark mayBegin markOf
+pub own-mark : (f : Function) (a : ℕ) → isMark f (markByte f a) 0xEF 0xEF 0xEF ≡ true
+unfolding isMark mayBegin markByte
 own-mark Request a = refl
 own-mark Reply zero = refl
 own-mark Reply (suc a) = refl
 
 -- a header with its mark set agrees, and setting the mark leaves one that agrees as it is
-with-has : (m : Form) (k : ℕ) → hasMark (withMark m k) k ≡ true
-unfolding hasMark withMark
+with-has : (m : Form) (k : ℕ) → markIs (withMark m k) k ≡ true
+unfolding markIs withMark
 with-has Standard k = refl
 with-has (Extended m) k = eq-eqb k k refl
 
-has-with : (m : Form) (k : ℕ) → hasMark m k ≡ true → withMark m k ≡ m
-unfolding hasMark withMark
+has-with : (m : Form) (k : ℕ) → markIs m k ≡ true → withMark m k ≡ m
+unfolding markIs withMark
 has-with Standard k e = refl
 has-with (Extended m) k e = rw (eqb-true m k e)
 
 module _ (h : Head) where
   pub remarked-agrees : markAgrees (remarked h) ≡ true
   unfolding markAgrees remarked
-  remarked-agrees = with-has (h .form) (markOf (h .function) (first (h .block)))
+  remarked-agrees = with-has (h .form) (markByte (h .function) (first (h .block)))
 
   pub agrees-remarked : markAgrees h ≡ true → remarked h ≡ h
   unfolding markAgrees remarked
-  agrees-remarked e = rw (has-with (h .form) (markOf (h .function) (first (h .block))) e)
+  agrees-remarked e = rw (has-with (h .form) (markByte (h .function) (first (h .block))) e)
 
   -- the rest of the header stays
   pub remarked-function : remarked h .function ≡ h .function

@@ -12,9 +12,9 @@ use lib.Seq.{drop-cons, drop-append-seam, take-at, length-take-le}
 use Rattle.base.specs.Choice.{pick}
 use Rattle.mop_block.specs.Block.{goodBlock, first}
 use Rattle.mop_block.proofs.Counts.{not-twice}
-use Rattle.mop_header.specs.Header.{Head, head, functionByte, addressBytes, headerBytes, headerLength, telegramOf, bodyOf, isMark, markOf, hasMark, markAgrees}
+use Rattle.mop_header.specs.Header.{Head, head, functionByte, addressBytes, headerBytes, headerLength, telegramOf, bodyOf, isMark, markByte, markIs, markAgrees}
 use Rattle.mop_header.specs.Reading.{fine, fault, Reading, sound, faulty, allowed, functionAt, goodFor, judged, standardReading, countAt, extendedReading, maxTelegram, reading}
-use Rattle.mop_header.specs.ReadBack.{sized, InOrder, ReadsBack, Written, IsWritten, NoMark}
+use Rattle.mop_header.specs.ReadBack.{sized, InOrder, ReadsBack, ReadWell, IsWritten, NoMark}
 use Rattle.mop_header.specs.declared.Function.{Function}
 use Rattle.mop_header.specs.declared.Form.{Form}
 use Rattle.mop_header.specs.declared.Form.the-variants.{Standard, Extended}
@@ -54,12 +54,12 @@ module _ (who : Reader) (f : Function) (c : ℕ) (body : List ℕ) where
 
   extended-back : (m : ℕ) (b : List ℕ) → InOrder who (head f c (Extended m) b) → length (telegramOf (head f c (Extended m) b) body) ≤ maxTelegram →
       reading who (telegramOf (head f c (Extended m) b) body) ≡ sound (head f c (Extended m) b)
-  unfolding sized telegramOf headerBytes addressBytes markAgrees hasMark
+  unfolding sized telegramOf headerBytes addressBytes markAgrees markIs
   extended-back m b o l =
       let tg : List ℕ = functionByte f ∷ c ∷ m ∷ 0xEF ∷ 0xEF ∷ 0xEF ∷ length b ∷ (b ++ body) in
       let long : length (b ++ body) ≡ length b + length body = length-append b body in
       let p = and-eq-true-iff (leb 2 (length b)) (leb (length b) 32) .0 (o .size) in
-      let mark : isMark f m 0xEF 0xEF 0xEF ≡ true = rw (eqb-true m (markOf f (first b)) (o .mark)) (own-mark f (first b)) in
+      let mark : isMark f m 0xEF 0xEF 0xEF ≡ true = rw (eqb-true m (markByte f (first b)) (o .mark)) (own-mark f (first b)) in
       as-extended who tg l (omega arith) (o .function) (rw function-at mark)
       ∙ behind-mark who tg (omega arith) (leb-true 2 (length b) (p .0)) (leb-true (length b) 32 (p .1)) (omega arith)
       ∙ rw (function-at, take-at b body (length b) refl) (judged-sound who (head f c (Extended m) b) (o .block) (o .mark))
@@ -103,20 +103,20 @@ module _ (tg : List ℕ) where
       (behind-two (omega arith))
 
 module _ (who : Reader) (tg : List ℕ) (h : Head) (small : length tg ≤ maxTelegram) (six : 6 ≤ length tg) (function : allowed who (getD tg 0 0) ≡ true) where
-  standard-written : standardReading who tg ≡ sound h → Written who tg h
+  standard-written : standardReading who tg ≡ sound h → ReadWell who tg h
   unfolding standardReading sized telegramOf headerBytes addressBytes
   standard-written e =
       let b : List ℕ = take 4 (drop 2 tg) in
       let h₀ : Head = head (functionAt tg) (getD tg 1 0) Standard b in
       let i = judged-order who h₀ h e in
       let four : length b ≡ 4 = length-take-le 4 (drop 2 tg) (omega (arith, length-drop 2 tg)) in
-      subst (λ (g : Head). Written who tg g) (i .2) (record {
+      subst (λ (g : Head). ReadWell who tg g) (i .2) (record {
         order = record { function = rw (byte-at who tg function) function; size = eq-eqb (length b) 4 four; block = i .0; mark = i .1 };
         whole = whole-by h₀ (drop 4 (drop 2 tg)) (rw (byte-at who tg function, take-append-drop 4 (drop 2 tg)) (behind-two tg (omega arith)));
         short = small;
       })
 
-  extended-written : isMark (functionAt tg) (getD tg 2 0) (getD tg 3 0) (getD tg 4 0) (getD tg 5 0) ≡ true → extendedReading who tg ≡ sound h → Written who tg h
+  extended-written : isMark (functionAt tg) (getD tg 2 0) (getD tg 3 0) (getD tg 4 0) (getD tg 5 0) ≡ true → extendedReading who tg ≡ sound h → ReadWell who tg h
   unfolding extendedReading sized telegramOf headerBytes addressBytes
   extended-written m e =
       let n : ℕ = countAt tg in
@@ -130,14 +130,14 @@ module _ (who : Reader) (tg : List ℕ) (h : Head) (small : length tg ≤ maxTel
       let room : 7 + n ≤ length tg = ltb-false (length tg) (7 + n) (r .0) in
       let long : length b ≡ n = length-take-le n (drop 7 tg) (omega (arith, length-drop 7 tg)) in
       let bytes = rw (efs .0, efs .1, efs .2) at (behind-seven tg (omega arith)) in
-      subst (λ (g : Head). Written who tg g) (i .2) (record {
+      subst (λ (g : Head). ReadWell who tg g) (i .2) (record {
         order = record { function = rw (byte-at who tg function) function; size = rw long (not-false (leb 2 n && leb n 32) (q .0)); block = i .0; mark = i .1 };
         whole = whole-by h₀ (drop n (drop 7 tg)) (rw (byte-at who tg function, long, take-append-drop n (drop 7 tg)) bytes);
         short = small;
       })
 
   by-form : (t : Bool) → isMark (functionAt tg) (getD tg 2 0) (getD tg 3 0) (getD tg 4 0) (getD tg 5 0) ≡ t →
-      pick t (extendedReading who tg) (standardReading who tg) ≡ sound h → Written who tg h
+      pick t (extendedReading who tg) (standardReading who tg) ≡ sound h → ReadWell who tg h
   by-form true m e = extended-written m e
   by-form false m e = standard-written e
 

@@ -32,12 +32,11 @@ module _ (f : ℕ) (other : f ≡ 0xE0 → ⊥) where
 
 -- a function and its byte
 pub function-at : (f : Function) (l : List ℕ) → functionAt (functionByte f ∷ l) ≡ f
-unfolding functionAt functionByte
+unfolding functionAt
 function-at Request l = refl
 function-at Reply l = refl
 
 byte-by : (who : Reader) (f : ℕ) (t : Bool) → eqb f 0xE0 ≡ t → allowed who f ≡ true → functionByte (pick t Reply Request) ≡ f
-unfolding functionByte
 byte-by who f true e a = sym (eqb-true f 0xE0 e)
 byte-by Station f false e a = sym (eqb-true f 0x60 (sym (station-allows f (eqb-false f 0xE0 e)) ∙ a))
 byte-by Centre f false e a = absurd (false≢true (sym (centre-allows f (eqb-false f 0xE0 e)) ∙ a))

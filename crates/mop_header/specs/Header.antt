@@ -1,4 +1,4 @@
--- The header of a telegram: its parts, its bytes, and what is made of it on the way.
+-- The header of a telegram: its parts and bytes, the mark, and what rolling and marking give.
 -- Assumes nothing.
 use Prim.Native.Nat.{ℕ, zero, suc}
 use mathlib.Core.Bool.{Bool, true, _&&_, _||_}
@@ -20,14 +20,14 @@ pub record Head : Type 0 where
   pub block : List ℕ
 
 abbrev pub head : Function → ℕ → Form → List ℕ → Head
-head f c m b = record { function = f; control = c; form = m; block = b }
+head function control form block = record { function = function; control = control; form = form; block = block }
 
 -- what a header of the code stands for: the block is the first count entries, and those behind them mean nothing
 abbrev pub headOf : Header → Head
 headOf h = head (h .function) (h .control) (h .form) (take (h .count) (h .entries))
 
 -- the function byte
-unfoldable pub functionByte : Function → ℕ
+abbrev pub functionByte : Function → ℕ
 functionByte Request = 0x60
 functionByte Reply = 0xE0
 
@@ -50,7 +50,7 @@ telegramOf h body = headerBytes h ++ body
 unfoldable pub bodyOf : Head → List ℕ → List ℕ
 bodyOf h telegram = drop (headerLength h) telegram
 
--- "mark": four entries that make a header extended. The last three are EF, and the first is EF, or 00 in a reply
+-- "mark": four entries that make a header extended, three of them EF behind a first one that is EF as well, or in a reply 00
 unfoldable pub mayBegin : Function → ℕ → Bool
 mayBegin Request a = eqb a 0xEF
 mayBegin Reply a = eqb a 0xEF || eqb a 0
@@ -59,15 +59,16 @@ unfoldable pub isMark : Function → ℕ → ℕ → ℕ → ℕ → Bool
 isMark f a b c d = eqb b 0xEF && (eqb c 0xEF && (eqb d 0xEF && mayBegin f a))
 
 -- the first mark byte, by the block's first entry: in a reply 00 exactly if that is 00
-unfoldable pub markOf : Function → ℕ → ℕ
-markOf Request a = 0xEF
-markOf Reply zero = 0x00
-markOf Reply (suc a) = 0xEF
+unfoldable pub markByte : Function → ℕ → ℕ
+markByte Request a = 0xEF
+markByte Reply zero = 0x00
+markByte Reply (suc a) = 0xEF
 
--- whether a form has a given first mark byte, and the form with another one; the standard form has none
-unfoldable pub hasMark : Form → ℕ → Bool
-hasMark Standard k = true
-hasMark (Extended m) k = eqb m k
+-- whether the first mark byte of a form is a given one, and the form with another one; a standard form has no mark, so that
+-- none can disagree
+unfoldable pub markIs : Form → ℕ → Bool
+markIs Standard k = true
+markIs (Extended m) k = eqb m k
 
 unfoldable pub withMark : Form → ℕ → Form
 withMark Standard k = Standard
@@ -75,11 +76,11 @@ withMark (Extended m) k = Extended k
 
 -- whether the mark agrees with the block
 unfoldable pub markAgrees : Head → Bool
-markAgrees h = hasMark (h .form) (markOf (h .function) (first (h .block)))
+markAgrees h = markIs (h .form) (markByte (h .function) (first (h .block)))
 
 -- the mark set by the block's first entry
 unfoldable pub remarked : Head → Head
-remarked h = head (h .function) (h .control) (withMark (h .form) (markOf (h .function) (first (h .block)))) (h .block)
+remarked h = head (h .function) (h .control) (withMark (h .form) (markByte (h .function) (first (h .block)))) (h .block)
 
 -- the block rolled one place
 unfoldable pub rolledLeft : Head → Head
@@ -87,3 +88,15 @@ rolledLeft h = head (h .function) (h .control) (h .form) (rollLeft (h .block))
 
 unfoldable pub rolledRight : Head → Head
 rolledRight h = head (h .function) (h .control) (h .form) (rollRight (h .block))
+
+-- the control byte of a new telegram
+abbrev pub newControl : ℕ
+newControl = 0xFF
+
+-- a new reply, in the form and with the block of the request
+unfoldable pub asReply : Head → Head
+asReply h = head Reply newControl (h .form) (h .block)
+
+-- a reply as it is sent: its block rolled right, then marked
+unfoldable pub sentBack : Head → Head
+sentBack h = remarked (rolledRight h)

@@ -2,13 +2,13 @@
 -- Assumes nothing.
 use Prim.Native.Nat.{ℕ, _≤_}
 use mathlib.Core.Path.{_≡_}
-use mathlib.Core.Bool.{Bool, true, false, _&&_}
+use mathlib.Core.Bool.{Bool, true, false}
 use mathlib.Core.List.{List, [], _∷_}
-use lib.Dec.{eqb, leb}
+use lib.Dec.{eqb}
 use lib.ListN.{length}
 use Rattle.mop_block.specs.Block.{goodBlock}
 use Rattle.mop_header.specs.Header.{Head, functionByte, telegramOf, bodyOf, isMark, markAgrees}
-use Rattle.mop_header.specs.Reading.{sound, allowed, goodFor, maxTelegram, reading}
+use Rattle.mop_header.specs.Reading.{sound, allowed, goodFor, goodCount, maxTelegram, reading}
 use Rattle.mop_header.specs.declared.Function.{Function}
 use Rattle.mop_header.specs.declared.Form.{Form}
 use Rattle.mop_header.specs.declared.Form.the-variants.{Standard, Extended}
@@ -17,7 +17,7 @@ use Rattle.mop_header.specs.declared.Reader.{Reader}
 -- the lengths that a block has in a form
 unfoldable pub sized : Form → ℕ → Bool
 sized Standard n = eqb n 4
-sized (Extended m) n = leb 2 n && leb n 32
+sized (Extended m) n = goodCount n
 
 -- a header in order for a reader
 pub record InOrder (who : Reader) (h : Head) : Type 0 where
@@ -33,13 +33,13 @@ ReadsBack =
     (reading who (telegramOf h body) ≡ sound h) × (bodyOf h (telegramOf h body) ≡ body)
 
 -- what reads well is what its header writes
-pub record Written (who : Reader) (telegram : List ℕ) (h : Head) : Type 0 where
+pub record ReadWell (who : Reader) (telegram : List ℕ) (h : Head) : Type 0 where
   pub order : InOrder who h
   pub whole : telegramOf h (bodyOf h telegram) ≡ telegram
   pub short : length telegram ≤ maxTelegram
 
 abbrev pub IsWritten : Type 0
-IsWritten = (who : Reader) (telegram : List ℕ) (h : Head) → reading who telegram ≡ sound h → Written who telegram h
+IsWritten = (who : Reader) (telegram : List ℕ) (h : Head) → reading who telegram ≡ sound h → ReadWell who telegram h
 
 -- no good standard block looks like the mark, in a request or a reply
 abbrev pub NoMark : Type 0

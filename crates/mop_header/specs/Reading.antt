@@ -8,7 +8,7 @@ use lib.ListN.{length, getD, take, drop}
 use Rattle.base.specs.Choice.{pick}
 use Rattle.refusal.specs.Numbers.{numberOf}
 use Rattle.mop_block.specs.Block.{stations, goodBlock}
-use Rattle.mop_header.specs.Header.{Head, head, headOf, isMark, markAgrees}
+use Rattle.mop_header.specs.Header.{Head, head, headOf, functionByte, isMark, markAgrees}
 use Rattle.mop_header.specs.declared.Function.{Function}
 use Rattle.mop_header.specs.declared.Function.the-variants.{Request, Reply}
 use Rattle.mop_header.specs.declared.Form.the-variants.{Standard, Extended}
@@ -18,7 +18,7 @@ use Rattle.mop_header.specs.declared.Verdict.{Verdict}
 use Rattle.mop_header.specs.declared.Verdict.the-variants.{Fine, Fault}
 use Rattle.mop_header.specs.declared.HeaderRead.{HeaderRead}
 
--- a verdict in numbers: no fault, or the number of a refusal
+-- a verdict in numbers: no fault in the header, or the number of a refusal
 pub data Finding : Type 0 where
   fine : Finding
   fault : ℕ → Finding
@@ -42,13 +42,13 @@ sound h = record { finding = fine; header = h }
 abbrev pub faulty : ℕ → Reading
 faulty k = record { finding = fault k; header = head Request 0 Standard [] }
 
--- the function bytes that a reader takes: a station requests and replies, the centre replies
+-- the function bytes that a reader takes: a station those of requests and replies, the centre only that of replies
 unfoldable pub allowed : Reader → ℕ → Bool
-allowed Station f = eqb f 0x60 || eqb f 0xE0
-allowed Centre f = eqb f 0xE0
+allowed Station f = eqb f (functionByte Request) || eqb f (functionByte Reply)
+allowed Centre f = eqb f (functionByte Reply)
 
 unfoldable pub functionAt : List ℕ → Function
-functionAt tg = pick (eqb (getD tg 0 0) 0xE0) Reply Request
+functionAt tg = pick (eqb (getD tg 0 0) (functionByte Reply)) Reply Request
 
 -- the block rule for a reader: the centre takes only a block that names somebody
 unfoldable pub goodFor : Reader → List ℕ → Bool
@@ -67,10 +67,13 @@ standardReading who tg = judged who (head (functionAt tg) (getD tg 1 0) Standard
 abbrev pub countAt : List ℕ → ℕ
 countAt tg = getD tg 6 0
 
+abbrev pub goodCount : ℕ → Bool
+goodCount n = leb 2 n && leb n 32
+
 unfoldable pub extendedReading : Reader → List ℕ → Reading
 extendedReading who tg =
     pick (ltb (length tg) 7) (faulty 2)
-    (pick (not (leb 2 (countAt tg) && leb (countAt tg) 32)) (faulty 4)
+    (pick (not (goodCount (countAt tg))) (faulty 4)
     (pick (ltb (length tg) (7 + countAt tg)) (faulty 2)
     (judged who (head (functionAt tg) (getD tg 1 0) (Extended (getD tg 2 0)) (take (countAt tg) (drop 7 tg))))))
 
@@ -78,10 +81,13 @@ extendedReading who tg =
 abbrev pub maxTelegram : ℕ
 maxTelegram = 1024
 
+abbrev pub tooLong : List ℕ → Bool
+tooLong tg = ltb maxTelegram (length tg)
+
 -- 12, 2, 3, then by the form
 unfoldable pub reading : Reader → List ℕ → Reading
 reading who tg =
-    pick (ltb maxTelegram (length tg)) (faulty 12)
+    pick (tooLong tg) (faulty 12)
     (pick (ltb (length tg) 6) (faulty 2)
     (pick (not (allowed who (getD tg 0 0))) (faulty 3)
     (pick (isMark (functionAt tg) (getD tg 2 0) (getD tg 3 0) (getD tg 4 0) (getD tg 5 0)) (extendedReading who tg)

@@ -13,11 +13,14 @@ ghost use Rattle.refusal.specs.Numbers.{numberOf};
 ghost use Rattle.refusal.specs.Writing.{fillingOf};
 ghost use Rattle.mop_block.specs.Block.{rolled, first, next};
 ghost use Rattle.mop_header.specs.declared.Function.the-variants.{Request, Reply};
-ghost use Rattle.mop_header.specs.Header.{head, headOf, functionByte, addressBytes, headerBytes, headerLength, telegramOf, isMark, markOf, hasMark, withMark, remarked, rolledLeft, rolledRight};
+ghost use Rattle.mop_header.specs.Header.{head, headOf, functionByte, addressBytes, headerBytes, headerLength, telegramOf, isMark, markByte, markIs, withMark, remarked, rolledLeft, rolledRight, asReply};
 ghost use Rattle.mop_header.specs.Reading.{readingOf, faulty, allowed, goodFor, judged, standardReading, extendedReading, reading};
 
 // The mark's bytes, but for the first one that may be 00.
 const MARK: u8 = 0xEF;
+
+// The control byte of a new telegram.
+const NEW_CONTROL: u8 = 0xFF;
 
 // The most bytes of a telegram.
 const MAX_TELEGRAM: usize = 1024;
@@ -25,7 +28,7 @@ const MAX_TELEGRAM: usize = 1024;
 // The most entries of a block.
 const MAX_ENTRIES: usize = 32;
 
-// What a telegram is.
+// A request or a reply.
 pub enum Function {
     Request,
     Reply,
@@ -42,8 +45,8 @@ pub struct Header {
     pub function: Function,
     pub control: u8,
     pub form: Form,
-    pub count: usize,
-    pub entries: [u8; 32],
+    count: usize,
+    entries: [u8; 32],
 }
 
 // Who reads a telegram.
@@ -90,7 +93,7 @@ fn rolled_entries(old: [u8; 32], n: usize, by: usize) -> [u8; 32]
 
 // The first mark byte of an extended header, by the block's first entry.
 fn mark_of(function: Function, first: u8) -> u8
-    ensures { λ r. ⌜ r ≡ markOf function first ⌝ }
+    ensures { λ r. ⌜ r ≡ markByte function first ⌝ }
 {
     match function {
         Function::Request => MARK,
@@ -156,6 +159,22 @@ impl Header {
             return 0;
         }
         self.entries[1]
+    }
+
+    // A new reply, in the form and with the block of the request.
+    pub fn as_reply(self) -> Self
+        ensures { λ r. ⌜ headOf r ≡ asReply (headOf self) ⌝ }
+    {
+        let form = self.form;
+        let count = self.count;
+        let entries = self.entries;
+        Header {
+            function: Function::Reply,
+            control: NEW_CONTROL,
+            form,
+            count,
+            entries,
+        }
     }
 
     // The block rolled so many places to the left.
@@ -343,7 +362,7 @@ fn is_mark(function: Function, a: u8, b: u8, c: u8, d: u8) -> bool
 
 // Whether a form has a given first mark byte.
 fn has_mark(form: Form, mark: u8) -> bool
-    ensures { λ r. ⌜ r ≡ hasMark form mark ⌝ }
+    ensures { λ r. ⌜ r ≡ markIs form mark ⌝ }
 {
     match form {
         Form::Standard => true,

@@ -14,22 +14,21 @@ use Rattle.registers.specs.Rows.{placeOf, tableLength}
 use Rattle.registers.specs.Runs.{runExists, reads}
 use Rattle.registers.proofs.Runs.{run-room, length-reads, reads-run, writes-run}
 use Rattle.mop_header.specs.Header.{Head, headerLength, telegramOf}
-use Rattle.mop_header.specs.Reading.{fine}
 use Rattle.mop_header.proofs.Writing.{length-telegram}
-use Rattle.mop_station.specs.Body.{readStart, readCount, writeStart, writeCount, valuesOf, written, readBack, replyBody}
-use Rattle.mop_station.specs.Station.{handledBy, keptBy, leaving, refuses, replied, answering}
+use Rattle.mop_station.specs.Body.{accepts, readStart, readCount, writeStart, writeCount, valuesOf, afterWrites, replyWith, replyBody}
+use Rattle.mop_station.specs.Station.{sending, keptBy, leaving, refuses, replied, answering}
 use Rattle.mop_station.proofs.Bodies.{Accepted}
 
 pub length-reply : (body table : List ℕ) → length (replyBody body table) ≡ 3 + 2 * readCount body
-unfolding replyBody readBack
+unfolding replyBody replyWith
 length-reply body table =
     let values = reads table (readStart body) (readCount body) in
     omega (arith, length-bytes values, length-reads table (readStart body) (readCount body))
 
 -- where there is room, the registers are as after the writes
 sent-kept : (telegram after t out : List ℕ) → length telegram ≤ length out →
-    leaving (handledBy (fitted telegram out .given)) after (fitted telegram out .output)
-    ≡ leaving (handledBy (fitted telegram out .given)) (keptBy (fitted telegram out .given) after t) (fitted telegram out .output)
+    leaving (sending (fitted telegram out .given)) after (fitted telegram out .output)
+    ≡ leaving (sending (fitted telegram out .given)) (keptBy (fitted telegram out .given) after t) (fitted telegram out .output)
 unfolding keptBy
 sent-kept telegram after t out h = rw (fitted-room telegram out h)
 
@@ -51,24 +50,24 @@ module _ (body : List ℕ) (a : Accepted body) where
   read-room = run-room (readStart body) (readCount body) (a .readable)
 
   module _ (h : Head) (t out : List ℕ) where
-    reply-length : length (telegramOf (replied h) (replyBody body (written body t))) ≡ headerLength (replied h) + (3 + 2 * readCount body)
-    reply-length = length-telegram (replied h) (replyBody body (written body t)) ∙ ap (λ (n : ℕ). headerLength (replied h) + n) (length-reply body (written body t))
+    reply-length : length (telegramOf (replied h) (replyBody body (afterWrites body t))) ≡ headerLength (replied h) + (3 + 2 * readCount body)
+    reply-length = length-telegram (replied h) (replyBody body (afterWrites body t)) ∙ ap (λ (n : ℕ). headerLength (replied h) + n) (length-reply body (afterWrites body t))
 
-    pub answer-short : length out < headerLength (replied h) + (3 + 2 * readCount body) → answering fine h body t out ≡ leaving (refuses 11) t out
-    unfolding answering handledBy keptBy
-    answer-short l = rw (fitted-short (telegramOf (replied h) (replyBody body (written body t))) out (rw reply-length l))
+    pub answer-short : length out < headerLength (replied h) + (3 + 2 * readCount body) → answering accepts h body t out ≡ leaving (refuses 11) t out
+    unfolding answering sending keptBy
+    answer-short l = rw (fitted-short (telegramOf (replied h) (replyBody body (afterWrites body t))) out (rw reply-length l))
 
     pub answer-sent : {after values : List ℕ} {f : Filling} → length t ≡ tableLength → headerLength (replied h) + (3 + 2 * readCount body) ≤ length out →
         after ≡ sets t (placeOf (writeStart body)) (valuesOf body) →
-        values ≡ readBack body (take (readCount body) (drop (placeOf (readStart body)) after)) →
-        f ≡ fitted (telegramOf (replied h) values) out → leaving (handledBy (f .given)) after (f .output) ≡ answering fine h body t out
-    unfolding answering written replyBody
+        values ≡ replyWith body (take (readCount body) (drop (placeOf (readStart body)) after)) →
+        f ≡ fitted (telegramOf (replied h) values) out → leaving (sending (f .given)) after (f .output) ≡ answering accepts h body t out
+    unfolding answering afterWrites replyBody
     answer-sent {after} {values} {f} long room stored read e =
-        let reply = telegramOf (replied h) (replyBody body (written body t)) in
-        let now : after ≡ written body t = stored ∙ sym (writes-run t (writeStart body) (valuesOf body) values-there) in
+        let reply = telegramOf (replied h) (replyBody body (afterWrites body t)) in
+        let now : after ≡ afterWrites body t = stored ∙ sym (writes-run t (writeStart body) (valuesOf body) values-there) in
         let length-after : length after ≡ tableLength = ap length stored ∙ length-sets t (placeOf (writeStart body)) (valuesOf body) ∙ long in
-        let back : values ≡ replyBody body after = read ∙ ap (readBack body) (sym (reads-run after (readStart body) (readCount body) (a .readable) length-after)) in
+        let back : values ≡ replyBody body after = read ∙ ap (replyWith body) (sym (reads-run after (readStart body) (readCount body) (a .readable) length-after)) in
         let same : f ≡ fitted reply out = e ∙ ap (λ (v : List ℕ). fitted (telegramOf (replied h) v) out) (back ∙ ap (replyBody body) now) in
-        ap (λ (g : Filling). leaving (handledBy (g .given)) after (g .output)) same
-        ∙ ap (λ (l : List ℕ). leaving (handledBy (fitted reply out .given)) l (fitted reply out .output)) now
-        ∙ sent-kept reply (written body t) t out (rw reply-length room)
+        ap (λ (g : Filling). leaving (sending (g .given)) after (g .output)) same
+        ∙ ap (λ (l : List ℕ). leaving (sending (fitted reply out .given)) l (fitted reply out .output)) now
+        ∙ sent-kept reply (afterWrites body t) t out (rw reply-length room)

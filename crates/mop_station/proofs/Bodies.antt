@@ -10,29 +10,28 @@ use lib.Dec.{eqb}
 use lib.ListN.{length, getD}
 use Rattle.base.specs.Choice.{pick}
 use Rattle.registers.specs.Runs.{runExists, runMayWrite, runTakes}
-use Rattle.mop_header.specs.Reading.{Finding, fine, fault}
-use Rattle.mop_station.specs.Body.{readStart, readCount, writeStart, writeCount, valuesOf, judgedRuns, judgedBody}
+use Rattle.mop_station.specs.Body.{Acceptance, accepts, rejects, readStart, readCount, writeStart, writeCount, valuesOf, judgedRuns, judgedBody}
 
 module _ (rStart rCount wStart wCount : ℕ) (values : List ℕ) where
-  pub no-read-run : runExists rStart rCount ≡ false → judgedRuns rStart rCount wStart wCount values ≡ fault 8
+  pub no-read-run : runExists rStart rCount ≡ false → judgedRuns rStart rCount wStart wCount values ≡ rejects 8
   unfolding judgedRuns
   no-read-run e = rw e
 
-  pub no-write-run : runExists wStart wCount ≡ false → judgedRuns rStart rCount wStart wCount values ≡ fault 8
+  pub no-write-run : runExists wStart wCount ≡ false → judgedRuns rStart rCount wStart wCount values ≡ rejects 8
   unfolding judgedRuns
   no-write-run e = rw (e, and-false (runExists rStart rCount))
 
   module _ (read : runExists rStart rCount ≡ true) (write : runExists wStart wCount ≡ true) where
-    pub not-writable : runMayWrite wStart wCount ≡ false → judgedRuns rStart rCount wStart wCount values ≡ fault 9
+    pub not-writable : runMayWrite wStart wCount ≡ false → judgedRuns rStart rCount wStart wCount values ≡ rejects 9
     unfolding judgedRuns
     not-writable e = rw (read, write, e)
 
     module _ (may : runMayWrite wStart wCount ≡ true) where
-      pub out-of-range : runTakes wStart values ≡ false → judgedRuns rStart rCount wStart wCount values ≡ fault 10
+      pub out-of-range : runTakes wStart values ≡ false → judgedRuns rStart rCount wStart wCount values ≡ rejects 10
       unfolding judgedRuns
       out-of-range e = rw (read, write, may, e)
 
-      pub runs-accepted : runTakes wStart values ≡ true → judgedRuns rStart rCount wStart wCount values ≡ fine
+      pub runs-accepted : runTakes wStart values ≡ true → judgedRuns rStart rCount wStart wCount values ≡ accepts
       unfolding judgedRuns
       runs-accepted e = rw (read, write, may, e)
 
@@ -47,11 +46,11 @@ short-count (a ∷ b ∷ c ∷ d ∷ e ∷ []) h = refl
 short-count (a ∷ b ∷ c ∷ d ∷ e ∷ f ∷ rest) h = absurd (omega arith)
 
 module _ (body : List ℕ) where
-  pub wrong-length : (length body ≡ 6 + 2 * writeCount body → ⊥) → judgedBody body ≡ fault 7
+  pub wrong-length : (length body ≡ 6 + 2 * writeCount body → ⊥) → judgedBody body ≡ rejects 7
   unfolding judgedBody
   wrong-length e = rw (ne-eqb (length body) (6 + 2 * writeCount body) e)
 
-  pub short-body : length body < 6 → judgedBody body ≡ fault 7
+  pub short-body : length body < 6 → judgedBody body ≡ rejects 7
   short-body h = wrong-length (λ e. omega (arith, short-count body h))
 
   pub right-length : length body ≡ 6 + 2 * writeCount body →
@@ -67,14 +66,14 @@ pub record Accepted (body : List ℕ) : Type 0 where
   pub writable : runMayWrite (writeStart body) (writeCount body) ≡ true
   pub inRange : runTakes (writeStart body) (valuesOf body) ≡ true
 
-fault-fine : (k : ℕ) → fault k ≡ fine → ⊥
-fault-fine k e = let z : _≡_ {A = ℕ} 0 1 = cc in omega arith
+rejects-accepts : (k : ℕ) → rejects k ≡ accepts → ⊥
+rejects-accepts k e = let z : _≡_ {A = ℕ} 0 1 = cc in omega arith
 
-passed : (t : Bool) (k : ℕ) (rest : Finding) → pick (not t) (fault k) rest ≡ fine → (t ≡ true) × (rest ≡ fine)
+passed : (t : Bool) (k : ℕ) (rest : Acceptance) → pick (not t) (rejects k) rest ≡ accepts → (t ≡ true) × (rest ≡ accepts)
 passed true k rest e = (refl, e)
-passed false k rest e = absurd (fault-fine k e)
+passed false k rest e = absurd (rejects-accepts k e)
 
-pub accepted : (body : List ℕ) → judgedBody body ≡ fine → Accepted body
+pub accepted : (body : List ℕ) → judgedBody body ≡ accepts → Accepted body
 unfolding judgedBody judgedRuns
 accepted body e =
     let read = runExists (readStart body) (readCount body) in

@@ -19,8 +19,8 @@ use Rattle.mop_header.specs.Reading.{Finding, fine, fault, sound, reading}
 use Rattle.mop_header.specs.declared.Function.{Function}
 use Rattle.mop_header.specs.declared.Function.the-variants.{Request, Reply}
 use Rattle.mop_header.specs.declared.Reader.the-variants.{Station}
-use Rattle.mop_station.specs.Body.{judgedBody, written, replyBody}
-use Rattle.mop_station.specs.Station.{notMine, Handling, leaving, handledBy, relayed, relaying, replied, keptBy, answering, taking, hearing, handling}
+use Rattle.mop_station.specs.Body.{Acceptance, accepts, rejects, judgedBody, afterWrites, replyBody}
+use Rattle.mop_station.specs.Station.{notMine, Handling, leaving, sending, relayed, relaying, replied, keptBy, answering, taking, hearing, handling}
 use Rattle.mop_station.specs.Safety.{Kept, RefusedKeepsAll, CarriesOut, OnlyDestinationWrites}
 
 -- what was written into the output, or 11 and the output as it was
@@ -30,16 +30,16 @@ by-room P telegram out short room = pick-either P (ltb (length out) (length tele
 
 module _ (t out : List ℕ) where
   relay-kept : (h : Head) (body : List ℕ) → Kept (relaying h body t out) t out
-  unfolding relaying handledBy
+  unfolding relaying sending
   relay-kept h body =
-      by-room (λ f. Kept (leaving (handledBy (f .given)) t (f .output)) t out) (telegramOf (relayed (h .function) h) body) out (refl, refl) tt
+      by-room (λ f. Kept (leaving (sending (f .given)) t (f .output)) t out) (telegramOf (relayed (h .function) h) body) out (refl, refl) tt
 
-  answer-kept : (v : Finding) (h : Head) (body : List ℕ) → Kept (answering v h body t out) t out
-  unfolding answering handledBy keptBy
-  answer-kept (fault k) h body = (refl, refl)
-  answer-kept fine h body =
-      by-room (λ f. Kept (leaving (handledBy (f .given)) (keptBy (f .given) (written body t) t) (f .output)) t out)
-      (telegramOf (replied h) (replyBody body (written body t))) out (refl, refl) tt
+  answer-kept : (v : Acceptance) (h : Head) (body : List ℕ) → Kept (answering v h body t out) t out
+  unfolding answering sending keptBy
+  answer-kept (rejects k) h body = (refl, refl)
+  answer-kept accepts h body =
+      by-room (λ f. Kept (leaving (sending (f .given)) (keptBy (f .given) (afterWrites body t) t) (f .output)) t out)
+      (telegramOf (replied h) (replyBody body (afterWrites body t))) out (refl, refl) tt
 
   take-kept : (f : Function) (n : ℕ) (h : Head) (body : List ℕ) → Kept (taking f n h body t out) t out
   unfolding taking
@@ -66,13 +66,13 @@ module _ (own : ℕ) (t telegram out : List ℕ) where
 
   -- as the destination
   module _ (h : Head) (order : reading Station telegram ≡ sound h) (mine : first (h .block) ≡ own) where
-    answer-only : h .function ≡ Request → next (h .block) ≡ 0 → (v : Finding) → judgedBody (bodyOf h telegram) ≡ v →
+    answer-only : h .function ≡ Request → next (h .block) ≡ 0 → (v : Acceptance) → judgedBody (bodyOf h telegram) ≡ v →
         Only (answering v h (bodyOf h telegram) t out)
     unfolding answering keptBy
-    answer-only request last (fault k) e = inl refl
-    answer-only request last fine e =
-        let after = written (bodyOf h telegram) t in
-        by-room (λ f. Only (leaving (handledBy (f .given)) (keptBy (f .given) after t) (f .output)))
+    answer-only request last (rejects k) e = inl refl
+    answer-only request last accepts e =
+        let after = afterWrites (bodyOf h telegram) t in
+        by-room (λ f. Only (leaving (sending (f .given)) (keptBy (f .given) after t) (f .output)))
         (telegramOf (replied h) (replyBody (bodyOf h telegram) after)) out (inl refl)
         (inr (record { head = h; order = order; request = request; mine = mine; last = last; accepted = e; all = refl }))
 

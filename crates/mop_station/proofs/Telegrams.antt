@@ -15,14 +15,14 @@ use Rattle.mop_header.specs.declared.Function.{Function}
 use Rattle.mop_header.specs.declared.Function.the-variants.{Request, Reply}
 use Rattle.mop_header.specs.declared.Reader.the-variants.{Station}
 use Rattle.mop_station.specs.Body.{judgedBody}
-use Rattle.mop_station.specs.Station.{notMine, refuses, leaving, handledBy, relayed, relaying, answering, taking, hearing, handling}
+use Rattle.mop_station.specs.Station.{notMine, refuses, leaving, sending, relayed, relaying, answering, taking, hearing, handling}
 
 module _ (h : Head) (body t out : List ℕ) where
   -- what writing the telegram gave is what relaying gives
   pub relay-filled : {f : Filling} → f ≡ fitted (telegramOf (relayed (h .function) h) body) out →
-      leaving (handledBy (f .given)) t (f .output) ≡ relaying h body t out
+      leaving (sending (f .given)) t (f .output) ≡ relaying h body t out
   unfolding relaying
-  relay-filled e = ap (λ (g : Filling). leaving (handledBy (g .given)) t (g .output)) e
+  relay-filled e = ap (λ (g : Filling). leaving (sending (g .given)) t (g .output)) e
 
   -- by the function and the entry behind the own one
   behind-station : (n : ℕ) → (n ≡ 0 → ⊥) → taking Request n h body t out ≡ relaying h body t out

@@ -8,7 +8,9 @@ use lib.ListN.{length, getD, drop}
 use Rattle.base.specs.Choice.{pick}
 use Rattle.base.specs.Words.{word, wordsOf, bytesOf}
 use Rattle.registers.specs.Runs.{runExists, runMayWrite, runTakes, writes, reads}
-use Rattle.mop_header.specs.Reading.{Finding, fine, fault}
+use Rattle.refusal.specs.Numbers.{numberOf}
+use Rattle.mop_station.specs.declared.BodyVerdict.{BodyVerdict}
+use Rattle.mop_station.specs.declared.BodyVerdict.the-variants.{Accepted, Rejected}
 
 -- the parts of a request's body: read start, read count, write start, write count, and the values
 abbrev pub readStart : List ℕ → ℕ
@@ -26,28 +28,37 @@ writeCount body = getD body 5 0
 abbrev pub valuesOf : List ℕ → List ℕ
 valuesOf body = wordsOf (drop 6 body)
 
--- the runs of a request: 8 over both, then 9 and 10 over the write run
-unfoldable pub judgedRuns : ℕ → ℕ → ℕ → ℕ → List ℕ → Finding
-judgedRuns rStart rCount wStart wCount values =
-    pick (not (runExists rStart rCount && runExists wStart wCount)) (fault 8)
-    (pick (not (runMayWrite wStart wCount)) (fault 9)
-    (pick (not (runTakes wStart values)) (fault 10)
-    fine))
+-- what a destination says of a body before it carries anything out: it "accepts" the body, or the number of a refusal
+pub data Acceptance : Type 0 where
+  accepts : Acceptance
+  rejects : ℕ → Acceptance
 
--- a body before anything of it is carried out: 7 for its length, then its runs; else a destination accepts it
-unfoldable pub judgedBody : List ℕ → Finding
+abbrev pub acceptanceOf : BodyVerdict → Acceptance
+acceptanceOf Accepted = accepts
+acceptanceOf (Rejected r) = rejects (numberOf r)
+
+-- the runs of a request: 8 over both, then 9 and 10 over the write run. Behind 7 there are as many values as its count says
+unfoldable pub judgedRuns : ℕ → ℕ → ℕ → ℕ → List ℕ → Acceptance
+judgedRuns rStart rCount wStart wCount values =
+    pick (not (runExists rStart rCount && runExists wStart wCount)) (rejects 8)
+    (pick (not (runMayWrite wStart wCount)) (rejects 9)
+    (pick (not (runTakes wStart values)) (rejects 10)
+    accepts))
+
+-- 7 for the length of a body, then its runs
+unfoldable pub judgedBody : List ℕ → Acceptance
 judgedBody body =
-    pick (not (eqb (length body) (6 + 2 * writeCount body))) (fault 7)
+    pick (not (eqb (length body) (6 + 2 * writeCount body))) (rejects 7)
     (judgedRuns (readStart body) (readCount body) (writeStart body) (writeCount body) (valuesOf body))
 
--- all the writes
-unfoldable pub written : List ℕ → List ℕ → List ℕ
-written body table = writes table (writeStart body) (valuesOf body)
+-- the table after all the writes
+unfoldable pub afterWrites : List ℕ → List ℕ → List ℕ
+afterWrites body table = writes table (writeStart body) (valuesOf body)
 
 -- the body of a reply: read start and count as they came, then the values
-unfoldable pub readBack : List ℕ → List ℕ → List ℕ
-readBack body values = getD body 0 0 ∷ getD body 1 0 ∷ getD body 2 0 ∷ bytesOf values
+unfoldable pub replyWith : List ℕ → List ℕ → List ℕ
+replyWith body values = getD body 0 0 ∷ getD body 1 0 ∷ getD body 2 0 ∷ bytesOf values
 
 -- with the values that the read run has in a table
 unfoldable pub replyBody : List ℕ → List ℕ → List ℕ
-replyBody body table = readBack body (reads table (readStart body) (readCount body))
+replyBody body table = replyWith body (reads table (readStart body) (readCount body))

@@ -6,10 +6,10 @@ use mathlib.Core.List.{List}
 use mathlib.Core.Logic.{_⊎_}
 use Rattle.mop_block.specs.Block.{first, next}
 use Rattle.mop_header.specs.Header.{Head, bodyOf}
-use Rattle.mop_header.specs.Reading.{fine, sound, reading}
+use Rattle.mop_header.specs.Reading.{sound, reading}
 use Rattle.mop_header.specs.declared.Function.the-variants.{Request}
 use Rattle.mop_header.specs.declared.Reader.the-variants.{Station}
-use Rattle.mop_station.specs.Body.{judgedBody, written}
+use Rattle.mop_station.specs.Body.{accepts, judgedBody, afterWrites}
 use Rattle.mop_station.specs.Station.{Handled, sent, notMine, refuses, Handling, handling}
 
 -- registers and output are as they were, unless a telegram is sent
@@ -33,8 +33,8 @@ pub record CarriesOut (own : ℕ) (t telegram registers : List ℕ) : Type 0 whe
   pub request : head .function ≡ Request
   pub mine : first (head .block) ≡ own
   pub last : next (head .block) ≡ 0
-  pub accepted : judgedBody (bodyOf head telegram) ≡ fine
-  pub all : registers ≡ written (bodyOf head telegram) t
+  pub accepted : judgedBody (bodyOf head telegram) ≡ accepts
+  pub all : registers ≡ afterWrites (bodyOf head telegram) t
 
 -- nobody but the destination changes a register, and it writes all or none
 abbrev pub OnlyDestinationWrites : Type 0

@@ -10,12 +10,12 @@ use Rattle.base.specs.Filling.{Given, filled, refused, fitted}
 use Rattle.refusal.specs.Numbers.{numberOf}
 use Rattle.registers.specs.Rows.{tableLength}
 use Rattle.mop_block.specs.Block.{isAddress, first, next}
-use Rattle.mop_header.specs.Header.{Head, head, telegramOf, bodyOf, rolledLeft, rolledRight, remarked}
+use Rattle.mop_header.specs.Header.{Head, telegramOf, bodyOf, rolledLeft, asReply, sentBack}
 use Rattle.mop_header.specs.Reading.{Finding, fine, fault, reading}
 use Rattle.mop_header.specs.declared.Function.{Function}
 use Rattle.mop_header.specs.declared.Function.the-variants.{Request, Reply}
 use Rattle.mop_header.specs.declared.Reader.the-variants.{Station}
-use Rattle.mop_station.specs.Body.{judgedBody, written, replyBody}
+use Rattle.mop_station.specs.Body.{Acceptance, accepts, rejects, judgedBody, afterWrites, replyBody}
 use Rattle.mop_station.specs.declared.StationAnswer.{StationAnswer}
 use Rattle.mop_station.specs.declared.StationAnswer.the-variants.{Sent, NotMine, Refused}
 
@@ -45,24 +45,24 @@ handlingOf r t out = leaving (handledOf r) t out
 -- From here on h is the header of the telegram, t the table of registers, and out the output.
 
 -- what filling the output gives is what the station gives: the telegram is sent, or 11
-unfoldable pub handledBy : Given → Handled
-handledBy (filled n) = sent n
-handledBy (refused k) = refuses k
+unfoldable pub sending : Given → Handled
+sending (filled n) = sent n
+sending (refused k) = refuses k
 
--- a relay rolls a request's block left and a reply's right; a reply is marked anew. Neither the body nor the registers are
--- looked at
+-- a relay rolls a request left; a reply it sends back. All the rest of the header stays, the control byte too, and neither
+-- body nor registers are looked at
 unfoldable pub relayed : Function → Head → Head
 relayed Request h = rolledLeft h
-relayed Reply h = remarked (rolledRight h)
+relayed Reply h = sentBack h
 
 unfoldable pub relaying : Head → List ℕ → List ℕ → List ℕ → Handling
 relaying h body t out =
     let filling = fitted (telegramOf (relayed (h .function) h) body) out in
-    leaving (handledBy (filling .given)) t (filling .output)
+    leaving (sending (filling .given)) t (filling .output)
 
--- the header of a destination's reply: control byte FF, the request's form, the block rolled right, and marked anew
+-- the header of a destination's reply
 unfoldable pub replied : Head → Head
-replied h = remarked (rolledRight (head Reply 0xFF (h .form) (h .block)))
+replied h = sentBack (asReply h)
 
 -- registers change only with a reply that is sent
 unfoldable pub keptBy : Given → List ℕ → List ℕ → List ℕ
@@ -70,14 +70,15 @@ keptBy (filled n) after t = after
 keptBy (refused k) after t = t
 
 -- a destination carries out the body that it accepts: all the writes, then the reads
-unfoldable pub answering : Finding → Head → List ℕ → List ℕ → List ℕ → Handling
-answering (fault k) h body t out = leaving (refuses k) t out
-answering fine h body t out =
-    let after = written body t in
+unfoldable pub answering : Acceptance → Head → List ℕ → List ℕ → List ℕ → Handling
+answering (rejects k) h body t out = leaving (refuses k) t out
+answering accepts h body t out =
+    let after = afterWrites body t in
     let filling = fitted (telegramOf (replied h) (replyBody body after)) out in
-    leaving (handledBy (filling .given)) (keptBy (filling .given) after t) (filling .output)
+    leaving (sending (filling .given)) (keptBy (filling .given) after t) (filling .output)
 
--- a telegram for this station: it is the destination of a request if the entry behind its own is 00, and else a relay
+-- a telegram for this station: it is the destination of a request if the next entry is 00, and else a relay; a reply it only
+-- relays
 unfoldable pub taking : Function → ℕ → Head → List ℕ → List ℕ → List ℕ → Handling
 taking Request zero h body t out = answering (judgedBody body) h body t out
 taking Request (suc a) h body t out = relaying h body t out
@@ -92,8 +93,10 @@ hearing fine own h telegram t out =
     (taking (h .function) (next (h .block)) h (bodyOf h telegram) t out)
     (leaving notMine t out)
 
--- the call: 1 for the own address or the table's length, then the telegram
+-- the call. The order: 1 here; 12 and 2 to 6 by `reading`; "not mine" by `hearing`; 7 to 10 by `judgedBody`, at the destination;
+-- 11 by `fitted`
 unfoldable pub handling : ℕ → List ℕ → List ℕ → List ℕ → Handling
 handling own t telegram out =
+    let read = reading Station telegram in
     pick (not (isAddress own && eqb (length t) tableLength)) (leaving (refuses 1) t out)
-    (hearing (reading Station telegram .finding) own (reading Station telegram .header) telegram t out)
+    (hearing (read .finding) own (read .header) telegram t out)

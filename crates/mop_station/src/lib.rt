@@ -5,7 +5,6 @@ use mop_header::Reader;
 use mop_header::Verdict;
 use refusal::Refusal;
 use refusal::WriteAnswer;
-use registers::LONGEST_RUN;
 use registers::TABLE_LENGTH;
 ghost use mathlib.Core.Path.{_≡_};
 ghost use Prim.Native.Nat.{_+_, _*_, _≤_};
@@ -15,11 +14,12 @@ ghost use Rattle.base.specs.Words.{word, wordsOf, bytesOf};
 ghost use Rattle.base.specs.Filling.{fitted};
 ghost use Rattle.refusal.specs.Writing.{givenOf, fillingOf};
 ghost use Rattle.registers.specs.Rows.{placeOf, tableLength};
+ghost use Rattle.registers.specs.Runs.{longestRun};
 ghost use Rattle.mop_block.specs.Block.{next};
-ghost use Rattle.mop_header.specs.Header.{headOf, headerLength, telegramOf};
-ghost use Rattle.mop_header.specs.Reading.{fine, findingOf};
-ghost use Rattle.mop_station.specs.Body.{readStart, readCount, writeStart, valuesOf, judgedRuns, judgedBody, readBack};
-ghost use Rattle.mop_station.specs.Station.{handledOf, handledBy, handlingOf, relayed, replied, answering, taking, hearing, handling};
+ghost use Rattle.mop_header.specs.Header.{headOf, headerLength, telegramOf, sentBack};
+ghost use Rattle.mop_header.specs.Reading.{fine};
+ghost use Rattle.mop_station.specs.Body.{acceptanceOf, accepts, readStart, readCount, writeStart, valuesOf, judgedRuns, judgedBody, replyWith};
+ghost use Rattle.mop_station.specs.Station.{handledOf, sending, handlingOf, relayed, replied, answering, taking, hearing, handling};
 
 // What handling a telegram gives: the length of what was sent, "not mine", or a refusal.
 pub enum StationAnswer {
@@ -35,6 +35,14 @@ fn word_of(high: u8, low: u8) -> u16
     high as u16 * 256 + low as u16
 }
 
+// A reply as it is sent: rolled right, then marked.
+fn sent_back(header: Header) -> Header
+    ensures { λ r. ⌜ headOf r ≡ sentBack (headOf header) ⌝ }
+{
+    let rolled = header.rolled_right();
+    rolled.remarked()
+}
+
 // The header that a relay sends on.
 fn relayed_header(header: Header) -> Header
     ensures { λ r. ⌜ headOf r ≡ relayed (header .function) (headOf header) ⌝ }
@@ -42,14 +50,11 @@ fn relayed_header(header: Header) -> Header
     let function = header.function;
     match function {
         Function::Request => header.rolled_left(),
-        Function::Reply => {
-            let rolled = header.rolled_right();
-            rolled.remarked()
-        }
+        Function::Reply => sent_back(header),
     }
 }
 
-// Sends the telegram on. The registers are not in reach here.
+// Sends the telegram on. It is not given the registers.
 fn relay(header: Header, body: &[u8], out: &mut [u8]) -> WriteAnswer
     ensures { λ r. ⌜ fillingOf r (now (out .exit)) ≡ fitted (telegramOf (relayed (header .function) (headOf header)) (now (body .entry))) (now (out .entry)) ⌝ }
 {
@@ -59,7 +64,7 @@ fn relay(header: Header, body: &[u8], out: &mut [u8]) -> WriteAnswer
 
 // What writing the telegram gives is what the station gives.
 fn handled(answer: WriteAnswer) -> StationAnswer
-    ensures { λ r. ⌜ handledOf r ≡ handledBy (givenOf answer) ⌝ }
+    ensures { λ r. ⌜ handledOf r ≡ sending (givenOf answer) ⌝ }
 {
     match answer {
         WriteAnswer::Written(n) => StationAnswer::Sent(n),
@@ -71,53 +76,50 @@ fn handled(answer: WriteAnswer) -> StationAnswer
 fn reply_header(header: Header) -> Header
     ensures { λ r. ⌜ headOf r ≡ replied (headOf header) ⌝ }
 {
-    let form = header.form;
-    let entries = header.entries;
-    let reply = Header {
-        function: Function::Reply,
-        control: 0xFF,
-        form,
-        count: header.count,
-        entries,
-    };
-    let rolled = reply.rolled_right();
-    rolled.remarked()
-}
-
-// Whether a destination accepts the runs of a request, or why not.
-fn judge_runs(rstart: u16, reads: u8, wstart: u16, writes: u8, values: &[u8]) -> Verdict
-    ensures { λ r. ⌜ findingOf r ≡ judgedRuns rstart reads wstart writes (wordsOf (now (values .entry))) ⌝ }
-{
-    if !registers::run_exists(rstart, reads) {
-        return Verdict::Fault(Refusal::NoRegister);
-    }
-    if !registers::run_exists(wstart, writes) {
-        return Verdict::Fault(Refusal::NoRegister);
-    }
-    if !registers::run_may_write(wstart, writes) {
-        return Verdict::Fault(Refusal::NoWrite);
-    }
-    if !registers::run_takes(wstart, values) {
-        return Verdict::Fault(Refusal::ValueRange);
-    }
-    Verdict::Fine
+    let reply = header.as_reply();
+    sent_back(reply)
 }
 
 // Whether a destination accepts a body, or why not.
-fn judge_body(body: &[u8]) -> Verdict
-    ensures { λ r. ⌜ findingOf r ≡ judgedBody (now (body .entry)) ⌝ }
+enum BodyVerdict {
+    Accepted,
+    Rejected(Refusal),
+}
+
+// Whether a destination accepts the runs of a request, or why not.
+fn judge_runs(rstart: u16, rcount: u8, wstart: u16, wcount: u8, values: &[u8]) -> BodyVerdict
+    ensures { λ r. ⌜ acceptanceOf r ≡ judgedRuns rstart rcount wstart wcount (wordsOf (now (values .entry))) ⌝ }
+{
+    if !registers::run_exists(rstart, rcount) {
+        return BodyVerdict::Rejected(Refusal::NoRegister);
+    }
+    if !registers::run_exists(wstart, wcount) {
+        return BodyVerdict::Rejected(Refusal::NoRegister);
+    }
+    if !registers::run_may_write(wstart, wcount) {
+        return BodyVerdict::Rejected(Refusal::NoWrite);
+    }
+    if !registers::run_takes(wstart, values) {
+        return BodyVerdict::Rejected(Refusal::ValueRange);
+    }
+    BodyVerdict::Accepted
+}
+
+// Whether a destination accepts a body, or why not.
+fn judge_body(body: &[u8]) -> BodyVerdict
+    ensures { λ r. ⌜ acceptanceOf r ≡ judgedBody (now (body .entry)) ⌝ }
 {
     let n = body.len();
     if n < 6 {
-        return Verdict::Fault(Refusal::BodyLength);
+        return BodyVerdict::Rejected(Refusal::BodyLength);
     }
-    let writes = body[5];
-    if n != 6 + 2 * writes as usize {
-        return Verdict::Fault(Refusal::BodyLength);
+    let wcount = body[5];
+    if n != 6 + 2 * wcount as usize {
+        return BodyVerdict::Rejected(Refusal::BodyLength);
     }
     let rstart = word_of(body[0], body[1]);
     let wstart = word_of(body[3], body[4]);
-    judge_runs(rstart, body[2], wstart, writes, &body[6..n])
+    judge_runs(rstart, body[2], wstart, wcount, &body[6..n])
 }
 
 // Stores the numbers that the bytes hold to the places of a table from `at` on.
@@ -162,15 +164,15 @@ fn write_registers(body: &[u8], registers: &mut [u16])
     store_words(&body[6..n], &mut *registers, at);
 }
 
-// The longest body of a reply: read start, read count, and the values of the longest run.
-const REPLY_BODY: usize = 3 + 2 * LONGEST_RUN;
+// Room for the longest body of a reply: three bytes, and the values of the longest run.
+const REPLY_BODY: usize = 19;
 
 // The body of the reply in the first places: the values stand from the place of the body's read start on.
 fn reply_body(body: &[u8], registers: &[u16]) -> [u8; REPLY_BODY]
     requires { ⌜ 6 ≤ length (now body) ⌝ }
-    requires { ⌜ readCount (now body) ≤ 8 ⌝ }
+    requires { ⌜ readCount (now body) ≤ longestRun ⌝ }
     requires { ⌜ placeOf (readStart (now body)) + readCount (now body) ≤ length (now registers) ⌝ }
-    ensures { λ r. ⌜ take (3 + 2 * readCount (now (body .entry))) r ≡ readBack (now (body .entry)) (take (readCount (now (body .entry))) (drop (placeOf (readStart (now (body .entry)))) (now (registers .entry)))) ⌝ }
+    ensures { λ r. ⌜ take (3 + 2 * readCount (now (body .entry))) r ≡ replyWith (now (body .entry)) (take (readCount (now (body .entry))) (drop (placeOf (readStart (now (body .entry)))) (now (registers .entry)))) ⌝ }
 {
     let start = word_of(body[0], body[1]);
     let count = body[2];
@@ -186,9 +188,9 @@ fn reply_body(body: &[u8], registers: &[u16]) -> [u8; REPLY_BODY]
 
 // Carries out a body that is accepted, and answers: 11, or all the writes, then the reads.
 fn carry_out(header: Header, body: &[u8], registers: &mut [u16], out: &mut [u8]) -> StationAnswer
-    requires { ⌜ judgedBody (now body) ≡ fine ⌝ }
+    requires { ⌜ judgedBody (now body) ≡ accepts ⌝ }
     requires { ⌜ length (now registers) ≡ tableLength ⌝ }
-    ensures { λ r. ⌜ handlingOf r (now (registers .exit)) (now (out .exit)) ≡ answering fine (headOf header) (now (body .entry)) (now (registers .entry)) (now (out .entry)) ⌝ }
+    ensures { λ r. ⌜ handlingOf r (now (registers .exit)) (now (out .exit)) ≡ answering accepts (headOf header) (now (body .entry)) (now (registers .entry)) (now (out .entry)) ⌝ }
 {
     let reply = reply_header(header);
     let count = body[2];
@@ -208,12 +210,12 @@ fn answer(header: Header, body: &[u8], registers: &mut [u16], out: &mut [u8]) ->
     ensures { λ r. ⌜ handlingOf r (now (registers .exit)) (now (out .exit)) ≡ answering (judgedBody (now (body .entry))) (headOf header) (now (body .entry)) (now (registers .entry)) (now (out .entry)) ⌝ }
 {
     match judge_body(body) {
-        Verdict::Fault(r) => StationAnswer::Refused(r),
-        Verdict::Fine => carry_out(header, body, &mut *registers, &mut *out),
+        BodyVerdict::Rejected(r) => StationAnswer::Refused(r),
+        BodyVerdict::Accepted => carry_out(header, body, &mut *registers, &mut *out),
     }
 }
 
-// A telegram for this station: it is the destination of a request if the entry behind its own is 00, and else a relay.
+// A telegram for this station: it is the destination of a request if the next entry is 00, and else a relay.
 fn take_telegram(
     header: Header,
     body: &[u8],
@@ -256,6 +258,7 @@ fn hear(
 }
 
 // One telegram at a station. What is sent fills the first places of out; the other places keep their values.
+// Not mine: the first entry is another's, or 00; registers and out are as they were.
 // Refused, and registers and out as they were: 1 for the own address or the table's length; 12, 2, 3, 4, 5, 6 for the
 // header; at the destination 7, 8, 9, 10 for the body; 11 for an output that is too short for what is to be sent.
 pub fn handle(own: u8, registers: &mut [u16], telegram: &[u8], out: &mut [u8]) -> StationAnswer

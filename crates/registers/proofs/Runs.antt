@@ -12,7 +12,7 @@ use lib.Dec.{leb}
 use lib.ListN.{length, getD, take, drop, set, length-set}
 use lib.Seq.{sets, drop-cons, getD-set-same, getD-set-other}
 use Rattle.registers.specs.Rows.{tableLength, placeOf, exists, mayWrite}
-use Rattle.registers.specs.Runs.{runExists, runMayWrite, writes, reads}
+use Rattle.registers.specs.Runs.{runExists, LongestRun, runMayWrite, writes, reads}
 use Rattle.registers.proofs.Tests.{both-true}
 use Rattle.registers.proofs.Places.{place-most, place-bound, place-apart, place-next, number-bound, no-nine}
 
@@ -90,6 +90,10 @@ run-bound s c r = go (leb c 8) refl
         let more : c ≡ 9 + (c - 9) = omega arith in
         let nine : runExists s 9 ≡ true = run-less s 9 (c - 9) (subst (λ (n : ℕ). runExists s n ≡ true) more r) in
         absurd (true≢false (sym nine ∙ no-nine s (run-first s 8 nine .0)))
+
+pub longest-run : LongestRun
+unfolding runExists exists placeOf tableLength
+longest-run = (refl, run-bound)
 
 pub run-past : (s c i : ℕ) → i < c → 65535 < s + i → runExists s c ≡ false
 run-past s c i h past = go (runExists s c) refl

@@ -1,15 +1,24 @@
 -- Runs: registers with numbers that follow one another, from a start on.
 -- Assumes nothing.
-use Prim.Native.Nat.{ℕ, zero, suc}
+use Prim.Native.Nat.{ℕ, zero, suc, _≤_}
+use mathlib.Core.Path.{_≡_}
 use mathlib.Core.Bool.{Bool, true, _&&_}
 use mathlib.Core.List.{List, [], _∷_}
 use lib.ListN.{getD, set}
 use Rattle.registers.specs.Rows.{placeOf, exists, mayWrite, takes}
 
--- a run exists if every register of it does: an empty one always, one that passes 65535 never
+-- a run exists if every register of it does. So an empty one always exists, and one that passes 65535 never, since no row
+-- has such a number
 unfoldable pub runExists : ℕ → ℕ → Bool
 runExists start zero = true
 runExists start (suc count) = exists start && runExists (suc start) count
+
+-- the most registers of a run that exists: 955 to 962
+abbrev pub longestRun : ℕ
+longestRun = 8
+
+abbrev pub LongestRun : Type 0
+LongestRun = (runExists 955 longestRun ≡ true) × ((start count : ℕ) → runExists start count ≡ true → count ≤ longestRun)
 
 -- every register of a run takes writes
 unfoldable pub runMayWrite : ℕ → ℕ → Bool

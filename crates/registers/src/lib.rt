@@ -8,9 +8,6 @@ ghost use Rattle.registers.specs.Agreement.{Agrees};
 // The length of a station's table of values.
 pub const TABLE_LENGTH: usize = 18;
 
-// The most registers in a run that exists.
-pub const LONGEST_RUN: usize = 8;
-
 // A register: its place, whether it takes writes, the least and the largest value in its range, and whether 65535 is
 // in its range besides.
 struct Register(usize, bool, u16, u16, bool);

@@ -10,14 +10,14 @@ use Rattle.link_laws.specs.Feeding.{feed}
 use Rattle.registers.specs.Rows.{tableLength, placeOf, exists, mayWrite, takes, factory}
 use Rattle.registers.specs.Runs.{runExists, runMayWrite, runTakes, writes, reads}
 use Rattle.mop_block.specs.Block.{isAddress, has, distinctAddresses, stations, zeroEnds, around, goodBlock, first, next, rolled, rollLeft, rollRight}
-use Rattle.mop_header.specs.Header.{functionByte, addressBytes, headerBytes, headerLength, telegramOf, bodyOf, mayBegin, isMark, markOf, hasMark, withMark, markAgrees, remarked, rolledLeft, rolledRight}
+use Rattle.mop_header.specs.Header.{addressBytes, headerBytes, headerLength, telegramOf, bodyOf, mayBegin, isMark, markByte, markIs, withMark, markAgrees, remarked, rolledLeft, rolledRight, asReply, sentBack}
 use Rattle.mop_header.specs.Reading.{allowed, functionAt, goodFor, judged, standardReading, extendedReading, reading}
-use Rattle.mop_station.specs.Body.{judgedRuns, judgedBody, written, readBack, replyBody}
-use Rattle.mop_station.specs.Station.{handledBy, relayed, relaying, replied, keptBy, answering, taking, hearing, handling}
+use Rattle.mop_station.specs.Body.{judgedRuns, judgedBody, afterWrites, replyWith, replyBody}
+use Rattle.mop_station.specs.Station.{sending, relayed, relaying, replied, keptBy, answering, taking, hearing, handling}
 use Rattle.worked_cases.specs.Cases.{_also_, none, WorkedCases}
 
 pub worked-cases : WorkedCases
-unfolding placed fitted wordsOf bytesOf sent doubled xorOver checked checkByte frameOf framing against afterStore byteOf dataOf eventOf insideOf noRoom receiveOf restOf storeOf waitingOf feed tableLength placeOf exists mayWrite takes factory runExists runMayWrite runTakes writes reads isAddress has distinctAddresses stations zeroEnds around goodBlock first next rolled rollLeft rollRight functionByte addressBytes headerBytes headerLength telegramOf bodyOf mayBegin isMark markOf hasMark withMark markAgrees remarked rolledLeft rolledRight allowed functionAt goodFor judged standardReading extendedReading reading judgedRuns judgedBody written readBack replyBody handledBy relayed relaying replied keptBy answering taking hearing handling
+unfolding placed fitted wordsOf bytesOf sent doubled xorOver checked checkByte frameOf framing against afterStore byteOf dataOf eventOf insideOf noRoom receiveOf restOf storeOf waitingOf feed tableLength placeOf exists mayWrite takes factory runExists runMayWrite runTakes writes reads isAddress has distinctAddresses stations zeroEnds around goodBlock first next rolled rollLeft rollRight addressBytes headerBytes headerLength telegramOf bodyOf mayBegin isMark markByte markIs withMark markAgrees remarked rolledLeft rolledRight asReply sentBack allowed functionAt goodFor judged standardReading extendedReading reading judgedRuns judgedBody afterWrites replyWith replyBody sending relayed relaying replied keptBy answering taking hearing handling
 worked-cases =
     refl also refl also refl also refl also refl also refl also refl also refl also refl also refl also refl also refl also refl also refl also refl also refl
     also refl also refl also none

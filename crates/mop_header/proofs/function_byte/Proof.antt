@@ -1,6 +1,5 @@
 -- `function_byte`: by the function.
 -- Assumes nothing.
-use Rattle.mop_header.specs.Header.{functionByte}
 use borrow.Author.Needs.{needs}
 use Rattle.mop_header.proofs.function_byte.Statement.{statement}
 use Rattle.mop_header.proofs.function_byte.Tie as tie
@@ -12,11 +11,9 @@ enum-told-2 : tie.Need-enum-told-2
 enum-told-2 c = search needs
 
 returns : tie.Need-returns
-unfolding functionByte
 returns c = rw (c .enum-told .given .1)
 
 returns-2 : tie.Need-returns-2
-unfolding functionByte
 returns-2 c = rw (c .enum-told2 .given .1)
 
 pub function-byte-spec : {M : Type 1} → statement M

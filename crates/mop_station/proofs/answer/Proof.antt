@@ -1,7 +1,7 @@
 -- `answer`: the refusal of the body, or what is carried out.
 -- Assumes nothing.
 use mathlib.Core.Path.{sym, _∙_, ap}
-use Rattle.mop_header.specs.Reading.{findingOf}
+use Rattle.mop_station.specs.Body.{acceptanceOf}
 use Rattle.mop_station.specs.Station.{answering}
 use borrow.Author.Needs.{needs}
 use Rattle.mop_station.proofs.answer.Statement.{statement}
@@ -17,11 +17,11 @@ enum-told : tie.Need-enum-told
 enum-told c = search needs
 
 carry-out-requires : tie.Need-carry-out-requires
-carry-out-requires c κs = (sym (c .before .before .before .before .judge-body .ensures) ∙ ap findingOf (c .before .before .enum-told .given .1), search needs)
+carry-out-requires c κs = (sym (c .before .before .before .before .judge-body .ensures) ∙ ap acceptanceOf (c .before .before .enum-told .given .1), search needs)
 
 returns : tie.Need-returns
 unfolding answering
-returns c = rw (sym (c .before .before .before .judge-body .ensures) ∙ ap findingOf (c .before .r .given .1))
+returns c = rw (sym (c .before .before .before .judge-body .ensures) ∙ ap acceptanceOf (c .before .r .given .1))
 
 same-length : tie.Need-same-length
 same-length c = search needs
@@ -30,7 +30,7 @@ same-length-2 : tie.Need-same-length-2
 same-length-2 c = search needs
 
 returns-2 : tie.Need-returns-2
-returns-2 c = rw (sym (c .before .before .before .before .before .before .before .before .before .judge-body .ensures) ∙ ap findingOf (c .before .before .before .before .before .before .before .enum-told .given .1)) (c .before .before .before .before .carry-out .ensures)
+returns-2 c = rw (sym (c .before .before .before .before .before .before .before .before .before .judge-body .ensures) ∙ ap acceptanceOf (c .before .before .before .before .before .before .before .enum-told .given .1)) (c .before .before .before .before .carry-out .ensures)
 
 pub answer-spec : {M : Type 1} → statement M
 answer-spec =

@@ -10,8 +10,7 @@ use native.Mathlib.Nat.{sub-zero}
 use Rattle.registers.proofs.Places.{table-length}
 use Rattle.registers.proofs.Runs.{run-bound}
 use Rattle.mop_header.specs.Header.{Head, headOf, headerLength}
-use Rattle.mop_header.specs.Reading.{fine}
-use Rattle.mop_station.specs.Body.{readStart, readCount, judgedBody}
+use Rattle.mop_station.specs.Body.{accepts, readStart, readCount, judgedBody}
 use Rattle.mop_station.proofs.Bodies.{accepted}
 use Rattle.mop_station.proofs.Answers.{write-room, read-room, answer-short, answer-sent}
 use borrow.Author.Needs.{needs}
@@ -24,8 +23,8 @@ reply-header-requires c κs = search needs
 shared-slice-read-count : tie.Need-shared-slice-read-count
 shared-slice-read-count c =
     let body = c .before .before .before .before .before .args .body .now in
-    let fine-body : judgedBody body ≡ fine = search needs in
-    let a = accepted body fine-body in
+    let good-body : judgedBody body ≡ accepts = search needs in
+    let a = accepted body good-body in
     omega (arith, a .long)
 
 cast-n : tie.Need-cast-n
@@ -46,8 +45,8 @@ add-if1 c = omega (arith, c .before .shared-slice-known2 .given 2)
 returns : tie.Need-returns
 returns c =
     let body = c .before .before .before .before .before .before .before .args .body .now in
-    let fine-body : judgedBody body ≡ fine = search needs in
-    let a = accepted body fine-body in
+    let good-body : judgedBody body ≡ accepts = search needs in
+    let a = accepted body good-body in
     let s = c .before .before .before .before .before .before .before .args in
     let size = c .before .length .ensures .0 ∙ ap headerLength (c .before .before .before .reply-header .ensures) in
     sym (answer-short body a (headOf (s .header)) (s .registers .now) (s .out .now) (omega (arith, size)))
@@ -55,15 +54,15 @@ returns c =
 write-registers-requires : tie.Need-write-registers-requires
 write-registers-requires c κs =
     let body = c .before .before .before .before .before .before .before .before .args .body .now in
-    let fine-body : judgedBody body ≡ fine = search needs in
-    let a = accepted body fine-body in
+    let good-body : judgedBody body ≡ accepts = search needs in
+    let a = accepted body good-body in
     (omega (arith, a .long), omega (arith, write-room body a))
 
 reply-body-requires : tie.Need-reply-body-requires
 reply-body-requires c κs =
     let body = c .before .before .before .before .before .before .before .before .before .before .before .before .args .body .now in
-    let fine-body : judgedBody body ≡ fine = search needs in
-    let a = accepted body fine-body in
+    let good-body : judgedBody body ≡ accepts = search needs in
+    let a = accepted body good-body in
     (omega (arith, a .long), (run-bound (readStart body) (readCount body) (a .readable), omega (arith, read-room body a, c .before .before .before .write-registers .kept .1 .0)))
 
 sub-write : tie.Need-sub-write
@@ -75,8 +74,8 @@ part-write-start c = search needs
 part-write-end : tie.Need-part-write-end
 part-write-end c =
     let body = c .before .before .before .before .before .before .before .before .before .before .before .before .before .before .args .body .now in
-    let fine-body : judgedBody body ≡ fine = search needs in
-    let a = accepted body fine-body in
+    let good-body : judgedBody body ≡ accepts = search needs in
+    let a = accepted body good-body in
     omega (arith, run-bound (readStart body) (readCount body) (a .readable))
 
 write-requires : tie.Need-write-requires
@@ -94,8 +93,8 @@ same-length-2 c = search needs
 returns-2 : tie.Need-returns-2
 returns-2 c =
     let body = c .before .before .before .before .before .before .before .before .before .before .before .before .before .before .before .before .before .before .before .before .args .body .now in
-    let fine-body : judgedBody body ≡ fine = search needs in
-    let a = accepted body fine-body in
+    let good-body : judgedBody body ≡ accepts = search needs in
+    let a = accepted body good-body in
     let s = c .before .before .before .before .before .before .before .before .before .before .before .before .before .before .before .before .before .before .before .before .args in
     let size = c .before .before .before .before .before .before .before .before .before .before .before .before .before .before .length .ensures .0 ∙ ap headerLength (c .before .before .before .before .before .before .before .before .before .before .before .before .before .before .before .before .reply-header .ensures) in
     let long : length (s .registers .now) ≡ tableLength = search needs in

@@ -1,6 +1,6 @@
 -- `handled`: by what writing gave.
 -- Assumes nothing.
-use Rattle.mop_station.specs.Station.{handledBy}
+use Rattle.mop_station.specs.Station.{sending}
 use borrow.Author.Needs.{needs}
 use Rattle.mop_station.proofs.handled.Statement.{statement}
 use Rattle.mop_station.proofs.handled.Tie as tie
@@ -12,11 +12,11 @@ enum-known-answer-2 : tie.Need-enum-known-answer-2
 enum-known-answer-2 c = search needs
 
 returns : tie.Need-returns
-unfolding handledBy
+unfolding sending
 returns c = rw (c .before .answer .given .1)
 
 returns-2 : tie.Need-returns-2
-unfolding handledBy
+unfolding sending
 returns-2 c = rw (c .before .answer2 .given .1)
 
 pub handled-spec : {M : Type 1} → statement M

@@ -11,8 +11,8 @@ use Rattle.mop_station.proofs.judge_body.Tie as tie
 returns : tie.Need-returns
 returns c = sym (short-body _ (c .if1 .taken))
 
-shared-slice-read-writes : tie.Need-shared-slice-read-writes
-shared-slice-read-writes c = search needs
+shared-slice-read-wcount : tie.Need-shared-slice-read-wcount
+shared-slice-read-wcount c = search needs
 
 cast-if2 : tie.Need-cast-if2
 cast-if2 c = omega (arith, c .shared-slice-known2 .given 5)
@@ -67,7 +67,7 @@ judge-body-spec =
     tie.close
     (tie.spec
     returns
-    shared-slice-read-writes
+    shared-slice-read-wcount
     cast-if2
     mul-if2
     add-if2

@@ -1,7 +1,7 @@
 -- `relayed_header`: by the function.
 -- Assumes nothing.
 use mathlib.Core.Path.{sym, _∙_, ap}
-use Rattle.mop_header.specs.Header.{headOf, remarked}
+use Rattle.mop_header.specs.Header.{headOf}
 use Rattle.mop_header.specs.declared.Function.{Function}
 use Rattle.mop_station.specs.Station.{relayed}
 use borrow.Author.Needs.{needs}
@@ -17,11 +17,8 @@ rolled-left-requires c κs = search needs
 enum-told-2 : tie.Need-enum-told-2
 enum-told-2 c = search needs
 
-rolled-right-requires : tie.Need-rolled-right-requires
-rolled-right-requires c κs = search needs
-
-remarked-requires : tie.Need-remarked-requires
-remarked-requires c κs = search needs
+sent-back-requires : tie.Need-sent-back-requires
+sent-back-requires c κs = search needs
 
 returns : tie.Need-returns
 unfolding relayed
@@ -29,8 +26,8 @@ returns c = c .rolled-left .ensures ∙ sym (ap (λ (f : Function). relayed f (h
 
 returns-2 : tie.Need-returns-2
 unfolding relayed
-returns-2 c = c .remarked .ensures ∙ ap remarked (c .before .rolled-right .ensures)
-    ∙ sym (ap (λ (f : Function). relayed f (headOf (c .before .before .before .before .args .header))) (c .before .before .enum-told2 .given .1))
+returns-2 c =
+    c .sent-back .ensures ∙ sym (ap (λ (f : Function). relayed f (headOf (c .before .before .before .args .header))) (c .before .enum-told2 .given .1))
 
 pub relayed-header-spec : {M : Type 1} → statement M
 relayed-header-spec =
@@ -39,7 +36,6 @@ relayed-header-spec =
     enum-told
     rolled-left-requires
     enum-told-2
-    rolled-right-requires
-    remarked-requires
+    sent-back-requires
     returns
     returns-2)

@@ -6,7 +6,7 @@ use native.Mathlib.Omega.{arith}
 use lib.ListN.{length, getD, take, drop, length-drop}
 use lib.Seq.{length-take-le}
 use Rattle.registers.specs.Rows.{placeOf}
-use Rattle.mop_station.specs.Body.{readBack}
+use Rattle.mop_station.specs.Body.{replyWith}
 use Rattle.mop_station.proofs.Stores.{reply-stored}
 use borrow.Author.Needs.{needs}
 use Rattle.mop_station.proofs.reply_body.Statement.{statement}
@@ -77,7 +77,7 @@ put-words-requires : tie.Need-put-words-requires
 put-words-requires c κs = search needs
 
 returns : tie.Need-returns
-unfolding readBack
+unfolding replyWith
 returns c =
     let a = c .before .before .before .before .before .before .before .before .before .before .before .before .before .args in
     let at = c .before .before .before .before .before .before .place-of .result in

@@ -2,7 +2,7 @@
 -- Assumes nothing.
 use mathlib.Core.Path.{_∙_, ap}
 use lib.ListN.{take}
-use Rattle.mop_header.specs.Header.{head, markOf, withMark, remarked}
+use Rattle.mop_header.specs.Header.{head, markByte, withMark, remarked}
 use Rattle.mop_header.specs.declared.Form.{Form}
 use borrow.Author.Needs.{needs}
 use Rattle.mop_header.proofs.Header.remarked.Statement.{statement}
@@ -21,7 +21,7 @@ returns : tie.Need-returns
 unfolding remarked
 returns c =
     let h = c .before .before .before .before .args .self in
-    let mark = c .before .mark-of .ensures ∙ ap (markOf (h .function)) (c .before .before .first .ensures) in
+    let mark = c .before .mark-of .ensures ∙ ap (markByte (h .function)) (c .before .before .first .ensures) in
     ap (λ (m : Form). head (h .function) (h .control) m (take (h .count) (h .entries))) (c .with-mark .ensures ∙ ap (withMark (h .form)) mark)
 
 pub remarked-spec : {M : Type 1} → statement M

@@ -1,0 +1,20 @@
+-- `sent_back`: rolled, then marked.
+-- Assumes nothing.
+use mathlib.Core.Path.{_∙_, ap}
+use Rattle.mop_header.specs.Header.{remarked, sentBack}
+use borrow.Author.Needs.{needs}
+use Rattle.mop_station.proofs.sent_back.Statement.{statement}
+use Rattle.mop_station.proofs.sent_back.Tie as tie
+
+rolled-right-requires : tie.Need-rolled-right-requires
+rolled-right-requires c κs = search needs
+
+remarked-requires : tie.Need-remarked-requires
+remarked-requires c κs = search needs
+
+returns : tie.Need-returns
+unfolding sentBack
+returns c = c .remarked .ensures ∙ ap remarked (c .before .rolled-right .ensures)
+
+pub sent-back-spec : {M : Type 1} → statement M
+sent-back-spec = tie.close (tie.spec rolled-right-requires remarked-requires returns)
