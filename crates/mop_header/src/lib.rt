@@ -13,7 +13,7 @@ ghost use Rattle.refusal.specs.Numbers.{numberOf};
 ghost use Rattle.refusal.specs.Writing.{fillingOf};
 ghost use Rattle.mop_block.specs.Block.{rolled, first, next};
 ghost use Rattle.mop_header.specs.declared.Function.the-variants.{Request, Reply};
-ghost use Rattle.mop_header.specs.Header.{head, headOf, functionByte, addressBytes, headerBytes, headerLength, telegramOf, isMark, markByte, markIs, withMark, remarked, rolledLeft, rolledRight, asReply};
+ghost use Rattle.mop_header.specs.Header.{head, headOf, functionByte, headerBytes, headerLength, telegramOf, isMark, markByte, markIs, withMark, remarked, rolledLeft, rolledRight, asReply};
 ghost use Rattle.mop_header.specs.Reading.{readingOf, faulty, allowed, goodFor, judged, standardReading, extendedReading, reading};
 
 // The mark's bytes, but for the first one that may be 00.
@@ -46,7 +46,7 @@ pub struct Header {
     pub control: u8,
     pub form: Form,
     count: usize,
-    entries: [u8; 32],
+    entries: [u8; MAX_ENTRIES],
 }
 
 // Who reads a telegram.
@@ -80,7 +80,7 @@ fn put(bytes: &[u8], out: &mut [u8], at: usize)
 }
 
 // Entries with the first n rolled so many places to the left.
-fn rolled_entries(old: [u8; 32], n: usize, by: usize) -> [u8; 32]
+fn rolled_entries(old: [u8; MAX_ENTRIES], n: usize, by: usize) -> [u8; MAX_ENTRIES]
     requires { ⌜ n ≤ 32 ⌝ }
     requires { ⌜ by ≤ n ⌝ }
     ensures { λ r. ⌜ take n r ≡ rolled by (take n old) ⌝ }
@@ -379,7 +379,7 @@ fn fault(refusal: Refusal) -> HeaderRead
         control: 0,
         form: Form::Standard,
         count: 0,
-        entries: [0u8; 32],
+        entries: [0u8; MAX_ENTRIES],
     };
     HeaderRead {
         verdict: Verdict::Fault(refusal),
@@ -388,11 +388,11 @@ fn fault(refusal: Refusal) -> HeaderRead
 }
 
 // An array whose first places are the block.
-fn copied(block: &[u8]) -> [u8; 32]
+fn copied(block: &[u8]) -> [u8; MAX_ENTRIES]
     requires { ⌜ length (now block) ≤ 32 ⌝ }
     ensures { λ r. ⌜ take (length (now (block .entry))) r ≡ now (block .entry) ⌝ }
 {
-    let mut entries = [0u8; 32];
+    let mut entries = [0u8; MAX_ENTRIES];
     put(block, &mut entries, 0);
     entries
 }

@@ -5,9 +5,9 @@ use mathlib.Core.Bool.{Bool, true, false, not, _&&_, and-false, and-eq-true-iff}
 use mathlib.Core.List.{List, [], _∷_}
 use Prim.Native.Nat.{ℕ, _+_, _*_, _<_}
 use native.Mathlib.Omega.{arith}
-use borrow.Author.Tests.{eq-eqb, ne-eqb, eqb-true, not-false}
+use borrow.Author.Tests.{eq-eqb, ne-eqb, eqb-true}
 use lib.Dec.{eqb}
-use lib.ListN.{length, getD}
+use lib.ListN.{length}
 use Rattle.base.specs.Choice.{pick}
 use Rattle.registers.specs.Runs.{runExists, runMayWrite, runTakes}
 use Rattle.mop_station.specs.Body.{Acceptance, accepts, rejects, readStart, readCount, writeStart, writeCount, valuesOf, judgedRuns, judgedBody}

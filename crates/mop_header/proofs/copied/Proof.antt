@@ -1,8 +1,5 @@
 -- `copied`: the block is copied to the first places.
 -- Assumes nothing.
-use mathlib.Core.Path.{_≡_, _∙_}
-use lib.ListN.{length}
-use native.Mathlib.Omega.{arith}
 use Rattle.base.proofs.Places.{take-sets}
 use borrow.Author.Needs.{needs}
 use Rattle.mop_header.proofs.copied.Statement.{statement}

@@ -1,7 +1,6 @@
 -- `read`: the tests in their order.
 -- Assumes nothing.
-use mathlib.Core.Path.{_≡_, sym, _∙_}
-use native.Mathlib.Omega.{arith}
+use mathlib.Core.Path.{sym, _∙_}
 use borrow.Author.Tests.{not-true, not-false}
 use Rattle.mop_header.specs.Reading.{functionAt}
 use Rattle.mop_header.proofs.Steps.{too-long, cut, not-allowed, as-extended, as-standard}

@@ -1,7 +1,7 @@
 -- `write_header`: by the form; the first entries are the block.
 -- Assumes nothing.
 use Rattle.mop_header.specs.Header.{headOf}
-use mathlib.Core.Path.{_≡_, sym, _∙_, ap}
+use mathlib.Core.Path.{_≡_}
 use native.Mathlib.Omega.{arith}
 use native.Mathlib.Nat.{sub-zero}
 use lib.ListN.{length}

@@ -3,13 +3,10 @@
 use lib.ListN.{length}
 use Rattle.registers.specs.Rows.{tableLength}
 use mathlib.Core.Path.{_≡_, sym, _∙_, ap}
-use mathlib.Core.List.{List}
-use Prim.Native.Nat.{ℕ}
 use native.Mathlib.Omega.{arith}
 use native.Mathlib.Nat.{sub-zero}
-use Rattle.registers.proofs.Places.{table-length}
 use Rattle.registers.proofs.Runs.{run-bound}
-use Rattle.mop_header.specs.Header.{Head, headOf, headerLength}
+use Rattle.mop_header.specs.Header.{headOf, headerLength}
 use Rattle.mop_station.specs.Body.{accepts, readStart, readCount, judgedBody}
 use Rattle.mop_station.proofs.Bodies.{accepted}
 use Rattle.mop_station.proofs.Answers.{write-room, read-room, answer-short, answer-sent}

@@ -2,8 +2,7 @@
 -- Assumes nothing.
 use Rattle.mop_header.specs.declared.Reader.the-variants.{Station}
 use Rattle.mop_header.specs.declared.Verdict.{Verdict}
-use mathlib.Core.Path.{_≡_, sym, _∙_, ap}
-use native.Mathlib.Omega.{arith}
+use mathlib.Core.Path.{sym, _∙_, ap}
 use borrow.Author.Tests.{not-true, not-false}
 use Rattle.registers.proofs.Places.{table-length}
 use Rattle.mop_header.specs.Header.{headOf}

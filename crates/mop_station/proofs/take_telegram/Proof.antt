@@ -1,7 +1,6 @@
 -- `take_telegram`: by the function and the entry behind the own one.
 -- Assumes nothing.
 use mathlib.Core.Path.{sym, _∙_}
-use Rattle.mop_header.specs.Header.{headOf}
 use Rattle.mop_station.proofs.Telegrams.{relay-filled, to-destination, to-relay, reply-to-relay}
 use borrow.Author.Needs.{needs}
 use Rattle.mop_station.proofs.take_telegram.Statement.{statement}

@@ -1,6 +1,6 @@
 -- `rolled`: the first entries are the block, and are rolled.
 -- Assumes nothing.
-use mathlib.Core.Path.{_≡_, ap, _∙_}
+use mathlib.Core.Path.{ap, _∙_}
 use mathlib.Core.List.{List}
 use Prim.Native.Nat.{ℕ}
 use Rattle.mop_block.specs.Block.{rolled}
