@@ -1,0 +1,254 @@
+//! The registers of a station: which numbers exist, which can be written, and with what.
+
+/// How many registers a station has.
+pub const COUNT: usize = 18;
+
+/// The values of a station's registers, each at its place in [`ROWS`].
+pub type Table = [u16; COUNT];
+
+/// What is fixed about one register.
+#[derive(Clone, Copy, PartialEq, Eq, Debug)]
+pub struct Row {
+    /// The number that telegrams use for it.
+    pub number: u16,
+    /// Whether a telegram may write it.
+    pub write: bool,
+    /// Smallest value of its range.
+    pub low: u16,
+    /// Largest value of its range.
+    pub high: u16,
+    /// A single value outside the range that is good as well.
+    pub also: Option<u16>,
+    /// Value that a new station has.
+    pub factory: u16,
+}
+
+impl Row {
+    /// Whether the value is one that this register may be given.
+    pub fn takes(&self, value: u16) -> bool {
+        (self.low <= value && value <= self.high) || self.also == Some(value)
+    }
+}
+
+/// One line of the table below.
+const fn row(
+    number: u16,
+    write: bool,
+    low: u16,
+    high: u16,
+    also: Option<u16>,
+    factory: u16,
+) -> Row {
+    Row {
+        number,
+        write,
+        low,
+        high,
+        also,
+        factory,
+    }
+}
+
+/// All registers, by number.
+#[rustfmt::skip]
+pub const ROWS: [Row; COUNT] = [
+    //  number, write, low,  high, also,        factory
+    row(     2, false,   0, 65535, None,              0),
+    row(   300, true,    0,     3, None,              0),
+    row(   931, false,   0, 65535, None,              0),
+    row(   932, false,   0, 65535, None,              0),
+    row(   933, false,   0, 65535, None,              0),
+    row(   934, false,   0, 65535, None,              0),
+    row(   935, false,   0, 65535, None,              0),
+    row(   936, false,   0, 65535, None,              0),
+    row(   952, true,    1,  1440, None,             15),
+    row(   953, true,    2,    25, None,              2),
+    row(   955, true,    0,  5947, None,              0),
+    row(   956, true,    0,    59, None,              0),
+    row(   957, true,    0,  5947, Some(65535),   65535),
+    row(   958, true,    1,  1440, None,             30),
+    row(   959, true,    1,  3600, Some(65535),      60),
+    row(   960, true,    1,  1440, None,             15),
+    row(   961, true,    1,  1440, None,             30),
+    row(   962, true,    0,     1, None,              0),
+];
+
+/// The place of the register with this number, if there is one.
+pub fn place(number: u16) -> Option<usize> {
+    ROWS.iter().position(|row| row.number == number)
+}
+
+/// The places of `count` registers with consecutive numbers from `start` on.
+///
+/// There are none to give if any of the numbers has no register; a number above 65535
+/// never has one. With a count of 0 the start does not matter.
+pub fn run(start: u16, count: u8) -> Option<Vec<usize>> {
+    (0..u32::from(count))
+        .map(|offset| {
+            let number = u16::try_from(u32::from(start) + offset).ok()?;
+            place(number)
+        })
+        .collect()
+}
+
+/// The registers of a new station.
+pub fn factory() -> Table {
+    ROWS.map(|row| row.factory)
+}
+
+#[cfg(test)]
+mod tests {
+    use super::*;
+
+    /// Every number that has a register, in table order.
+    const NUMBERS: [u16; 18] = [
+        2, 300, 931, 932, 933, 934, 935, 936, 952, 953, 955, 956, 957, 958, 959, 960, 961, 962,
+    ];
+
+    /// The row of a number that has one.
+    fn of(number: u16) -> Row {
+        ROWS[place(number).expect("a register")]
+    }
+
+    #[test]
+    fn numbers_in_order() {
+        assert_eq!(ROWS.map(|row| row.number), NUMBERS);
+        assert!(NUMBERS.is_sorted());
+    }
+
+    #[test]
+    fn factory_values() {
+        assert_eq!(
+            factory(),
+            [0, 0, 0, 0, 0, 0, 0, 0, 15, 2, 0, 0, 65535, 30, 60, 15, 30, 0]
+        );
+    }
+
+    #[test]
+    fn factory_values_are_good() {
+        for row in ROWS {
+            assert!(row.takes(row.factory), "{row:?}");
+        }
+    }
+
+    #[test]
+    fn inputs_cannot_be_written() {
+        for row in ROWS {
+            let input = row.number == 2 || (931..=936).contains(&row.number);
+            assert_eq!(row.write, !input, "{row:?}");
+            if input {
+                assert_eq!(row.factory, 0);
+            }
+        }
+    }
+
+    #[test]
+    fn place_of_every_number() {
+        for number in 0..=u16::MAX {
+            let expected = match number {
+                2 => Some(0),
+                300 => Some(1),
+                931..=936 => Some(usize::from(number) - 931 + 2),
+                952 => Some(8),
+                953 => Some(9),
+                955..=962 => Some(usize::from(number) - 955 + 10),
+                _ => None,
+            };
+            assert_eq!(place(number), expected, "{number}");
+        }
+    }
+
+    #[test]
+    fn every_value_of_every_register() {
+        for value in 0..=u16::MAX {
+            for number in [2, 931, 932, 933, 934, 935, 936] {
+                assert!(of(number).takes(value));
+            }
+            for number in [952, 958, 960, 961] {
+                assert_eq!(of(number).takes(value), (1..=1440).contains(&value));
+            }
+            assert_eq!(of(300).takes(value), value <= 3);
+            assert_eq!(of(953).takes(value), (2..=25).contains(&value));
+            assert_eq!(of(955).takes(value), value <= 5947);
+            assert_eq!(of(956).takes(value), value <= 59);
+            assert_eq!(of(957).takes(value), value <= 5947 || value == 65535);
+            assert_eq!(
+                of(959).takes(value),
+                (1..=3600).contains(&value) || value == 65535
+            );
+            assert_eq!(of(962).takes(value), value <= 1);
+        }
+    }
+
+    #[test]
+    fn highest_time_of_day() {
+        assert_eq!(u16::from_be_bytes([23, 59]), 5947);
+        assert_eq!(of(955).high, 5947);
+        assert_eq!(of(957).high, 5947);
+        // A plain interval: the low byte is not looked at on its own.
+        assert!(of(955).takes(u16::from_be_bytes([8, 75])));
+        assert!(of(957).takes(u16::from_be_bytes([8, 75])));
+    }
+
+    #[test]
+    fn empty_run_from_anywhere() {
+        for start in 0..=u16::MAX {
+            assert_eq!(run(start, 0), Some(vec![]));
+        }
+    }
+
+    #[test]
+    fn run_of_one_is_a_place() {
+        for start in 0..=u16::MAX {
+            assert_eq!(run(start, 1), place(start).map(|place| vec![place]));
+        }
+    }
+
+    #[test]
+    fn runs_within_each_stretch() {
+        // Stretches of numbers without a gap: first, last, place of the first.
+        let stretches = [
+            (2, 2, 0),
+            (300, 300, 1),
+            (931, 936, 2),
+            (952, 953, 8),
+            (955, 962, 10),
+        ];
+        for start in 0..=1100 {
+            for count in 1..=u8::MAX {
+                let last = start + u16::from(count) - 1;
+                let expected = stretches
+                    .iter()
+                    .find(|(from, to, _)| *from <= start && last <= *to)
+                    .map(|(from, _, place)| {
+                        let first = place + usize::from(start - from);
+                        (first..first + usize::from(count)).collect::<Vec<_>>()
+                    });
+                assert_eq!(run(start, count), expected, "{count} from {start}");
+            }
+        }
+    }
+
+    #[test]
+    fn gaps_end_a_run() {
+        assert_eq!(run(952, 2), Some(vec![8, 9]));
+        assert_eq!(run(953, 2), None);
+        assert_eq!(run(952, 3), None);
+        assert_eq!(run(954, 1), None);
+        assert_eq!(run(954, 2), None);
+        assert_eq!(run(955, 8), Some((10..18).collect()));
+        assert_eq!(run(955, 9), None);
+        assert_eq!(run(2, 255), None);
+    }
+
+    #[test]
+    fn runs_past_65535() {
+        for start in 65281..=u16::MAX {
+            for count in 1..=u8::MAX {
+                assert_eq!(run(start, count), None);
+            }
+        }
+        // The numbers do not start again at 0, so 2 is never reached.
+        assert_eq!(run(65535, 4), None);
+    }
+}
