@@ -1,4 +1,4 @@
-// The calls at their limits.
+// The link's calls at their limits.
 use crate::show;
 use link_receive::Dle;
 use link_receive::LinkEvent;
@@ -7,10 +7,10 @@ use link_receive::Phase;
 use refusal::WriteAnswer;
 
 // What buffers hold before a call.
-const BEFORE: u8 = 0xEE;
+pub(crate) const BEFORE: u8 = 0xEE;
 
 // The first place, from n on, that is not as it was before; the length where there is none.
-fn first_change(s: &[u8], n: usize) -> usize {
+pub(crate) fn first_change(s: &[u8], n: usize) -> usize {
     let mut i = n;
     while i < s.len() {
         if s[i] != BEFORE {
@@ -22,7 +22,7 @@ fn first_change(s: &[u8], n: usize) -> usize {
 }
 
 // The place from n on that changed, if one did, and whether more did.
-fn show_changes(s: &[u8], n: usize) {
+pub(crate) fn show_changes(s: &[u8], n: usize) {
     let at = first_change(s, n);
     if at < s.len() {
         show::text(b", place");

@@ -1,8 +1,11 @@
 // What is only run. Without an argument: the calls at their limits, and the receiving half's table row by row.
-// `play` frames standard input and feeds the frame back; `listen` feeds standard input to a receiving half.
+// `play` frames standard input and feeds the frame back; `listen` feeds standard input to a receiving half; `station`
+// makes the calls of a station that standard input lists.
 mod limits;
 mod link;
 mod show;
+mod station;
+mod station_limits;
 
 use libc::STDIN_FILENO;
 
@@ -29,6 +32,16 @@ fn main() {
         link::play(&input[..n]);
         return;
     }
+    if m == b's' {
+        station::make_calls();
+        return;
+    }
     limits::frames();
     limits::events();
+    station_limits::setups();
+    station_limits::counts();
+    station_limits::lengths();
+    station_limits::outputs();
+    station_limits::bodies();
+    station_limits::reads();
 }

@@ -6,6 +6,7 @@ use link_receive::LinkEvent;
 use link_receive::LinkState;
 use link_receive::LinkStep;
 use link_receive::Phase;
+use mop_station::StationAnswer;
 use refusal::Refusal;
 
 pub(crate) fn text(s: &[u8]) {
@@ -23,14 +24,51 @@ pub(crate) fn byte(b: u8) {
     text(&[b' ', hex_digit(b / 16), hex_digit(b)]);
 }
 
-// The bytes, and the end of the line.
-pub(crate) fn line(s: &[u8]) {
+// Each byte in two hex digits after a space, a hundred bytes at a time.
+pub(crate) fn bytes(s: &[u8]) {
+    let mut digits = [b' '; 300];
+    let mut n: usize = 0;
     let mut i: usize = 0;
     while i < s.len() {
-        byte(s[i]);
+        digits[n + 1] = hex_digit(s[i] / 16);
+        digits[n + 2] = hex_digit(s[i]);
+        n += 3;
+        i += 1;
+        if 297 < n {
+            text(&digits[0..n]);
+            n = 0;
+        }
+    }
+    text(&digits[0..n]);
+}
+
+// The bytes, and the end of the line.
+pub(crate) fn line(s: &[u8]) {
+    bytes(s);
+    text(b"\n");
+}
+
+// A two-byte number in four hex digits, after a space.
+fn word(n: u16) {
+    let high = (n / 256) as u8;
+    let low = (n % 256) as u8;
+    text(
+        &[
+            b' ',
+            hex_digit(high / 16),
+            hex_digit(high),
+            hex_digit(low / 16),
+            hex_digit(low),
+        ],
+    );
+}
+
+pub(crate) fn words(s: &[u16]) {
+    let mut i: usize = 0;
+    while i < s.len() {
+        word(s[i]);
         i += 1;
     }
-    text(b"\n");
 }
 
 // A number, after a space.
@@ -88,6 +126,20 @@ pub(crate) fn answer(a: LinkAnswer) {
             number(n);
         }
         LinkAnswer::Refused(r) => refusal(r),
+    }
+}
+
+pub(crate) fn station_answer(a: StationAnswer) {
+    match a {
+        StationAnswer::Sent(n) => {
+            text(b"sent");
+            number(n);
+        }
+        StationAnswer::NotMine => text(b"not mine"),
+        StationAnswer::Refused(r) => {
+            text(b"refused");
+            number(r.number() as usize);
+        }
     }
 }
 

@@ -11,6 +11,8 @@ pub enum Mode {
     Play,
     /// Feed the input to a receiving half at rest.
     Listen,
+    /// Make the calls of a station that the input lists.
+    Station,
 }
 
 /// One run of the program.
@@ -53,14 +55,14 @@ impl Random {
         Random((seed ^ 0x9E37_79B9_7F4A_7C15).max(1))
     }
 
-    fn below(&mut self, limit: usize) -> usize {
+    pub fn below(&mut self, limit: usize) -> usize {
         self.0 ^= self.0 << 13;
         self.0 ^= self.0 >> 7;
         self.0 ^= self.0 << 17;
         (self.0 >> 32) as usize % limit
     }
 
-    fn byte(&mut self) -> u8 {
+    pub fn byte(&mut self) -> u8 {
         self.below(256) as u8
     }
 

@@ -3,12 +3,15 @@
 
 #![forbid(unsafe_code)]
 
+mod calls;
 mod inputs;
+mod lists;
 mod run;
+mod telegrams;
 mod text;
 
-use inputs::{Case, Random};
-use run::{run, shrink};
+use inputs::{Case, Mode, Random};
+use run::{run, shrink, shrink_list};
 use std::error::Error;
 use std::io;
 use std::process::ExitCode;
@@ -30,9 +33,11 @@ fn main() -> Result<ExitCode, Box<dyn Error>> {
     let limits = inputs::limits();
     let framing = inputs::framing(&mut random);
     let listening = inputs::listening(&mut random);
+    let stations = lists::lists(&mut random);
     let right = compare(program, "limits", &limits, &mut tally)?
         && compare(program, "framing", &framing, &mut tally)?
         && compare(program, "listening", &listening, &mut tally)?
+        && compare(program, "stations", &stations, &mut tally)?
         && all_reached(&tally);
     Ok(if right {
         ExitCode::SUCCESS
@@ -43,7 +48,7 @@ fn main() -> Result<ExitCode, Box<dyn Error>> {
 
 /// Runs the cases, one after the other; false at the first wrong text.
 fn compare(program: &str, part: &str, cases: &[Case], tally: &mut Tally) -> io::Result<bool> {
-    let (mut offered, mut printed) = (0, 0);
+    let (mut offered, mut printed, mut answers) = (0, 0, 0);
     for (i, case) in cases.iter().enumerate() {
         let expected = expected(case);
         let text = run(program, case)?;
@@ -59,13 +64,14 @@ fn compare(program: &str, part: &str, cases: &[Case], tally: &mut Tally) -> io::
         printed += text.len();
         for (kind, count) in expected.tally {
             *tally.entry(kind).or_default() += count;
+            answers += count;
         }
     }
     println!(
         "{part}: {} processes, {offered} bytes on standard input",
         cases.len()
     );
-    println!("  their {printed} bytes of text are all as expected");
+    println!("  {answers} answers, and their {printed} bytes of text are all as expected");
     Ok(true)
 }
 
@@ -76,14 +82,19 @@ fn report(program: &str, case: &Case, right: &str, wrong: &[u8]) {
     if let Some((right, wrong)) = lines.find(|(right, wrong)| right != wrong) {
         println!("the first wrong line is {wrong:?}, expected {right:?}");
     }
-    let smallest = shrink(&case.input, TRIES, |input| {
-        let input = input.to_vec();
+    let fails = |input: &[u8]| {
         let case = Case {
-            input,
-            ..case.clone()
+            name: String::new(),
+            input: input.to_vec(),
+            ..*case
         };
         run(program, &case).is_ok_and(|text| text != expected(&case).text.as_bytes())
-    });
+    };
+    let mut tries = TRIES;
+    let smallest = match case.mode {
+        Mode::Station => shrink_list(&case.input, &mut tries, fails),
+        _ => shrink(&case.input, &mut tries, fails),
+    };
     println!("smallest failing input found, {} bytes:", smallest.len());
     println!("{}", hex(&smallest));
 }
@@ -91,7 +102,7 @@ fn report(program: &str, case: &Case, right: &str, wrong: &[u8]) {
 /// Prints how often each kind of answer was reached.
 fn all_reached(tally: &Tally) -> bool {
     let answers: u64 = tally.values().sum();
-    println!("answers, to data framed or to an event: {answers}");
+    println!("answers, to data framed, to an event or to a station's call: {answers}");
     for (kind, count) in tally {
         println!("  reached {count:>8} times: {kind}");
     }

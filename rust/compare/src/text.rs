@@ -1,12 +1,14 @@
 //! The text that the program must print, by the reference.
 
+use crate::calls::{decode, Bank, Call, BEFORE};
 use crate::inputs::{Case, Mode};
 use reference::link::{frame, receive, Answer, Event, Phase, State};
 use reference::link::{BAD_STATE, DATA_TOO_LONG, DLE, MAX_DATA, NAK, OUTPUT_TOO_SHORT, STX};
+use reference::station;
 use std::collections::BTreeMap;
 
 /// The kinds of answer that a run must reach.
-pub const KINDS: [&str; 15] = [
+pub const KINDS: [&str; 41] = [
     "frame written",
     "refused 11",
     "refused 12",
@@ -22,6 +24,32 @@ pub const KINDS: [&str; 15] = [
     "message of 1,024 bytes",
     "message of another length",
     "refused 1",
+    "station: sent as relay of a standard request",
+    "station: sent as relay of a standard reply",
+    "station: sent as destination, standard",
+    "station: sent as relay of an extended request",
+    "station: sent as relay of an extended reply",
+    "station: sent as destination, extended",
+    "station: not mine",
+    "station: refused 1, address",
+    "station: refused 1, table",
+    "station: refused 2, under 6 bytes",
+    "station: refused 2, under 7 bytes",
+    "station: refused 2, entries missing",
+    "station: refused 3",
+    "station: refused 4, under 2",
+    "station: refused 4, over 32",
+    "station: refused 5, standard",
+    "station: refused 5, extended",
+    "station: refused 6, mark 00",
+    "station: refused 6, mark EF",
+    "station: refused 7",
+    "station: refused 8",
+    "station: refused 9",
+    "station: refused 10",
+    "station: refused 11, relay",
+    "station: refused 11, destination",
+    "station: refused 12",
 ];
 
 /// How often each kind of answer came.
@@ -46,6 +74,7 @@ pub fn expected(case: &Case) -> Expected {
         Mode::Limits => expected.limits(),
         Mode::Play => expected.play(&case.input),
         Mode::Listen => expected.feed(&case.input),
+        Mode::Station => expected.list(&case.input),
     }
     expected
 }
@@ -120,6 +149,12 @@ impl Expected {
                 self.event_limit(phase, count, event, places);
             }
         }
+        for call in station_limits() {
+            self.station_limit(&call);
+        }
+        for (start, count) in READS {
+            self.numbered_read(start, count);
+        }
     }
 
     fn frame_limit(&mut self, value: u8, length: usize, places: usize) {
@@ -160,10 +195,81 @@ impl Expected {
             changes_text(&buffer, 0)
         );
     }
-}
 
-/// What outputs and buffers hold before a call at a limit.
-const BEFORE: u8 = 0xEE;
+    /// Makes the calls of a list, all with one table.
+    fn list(&mut self, input: &[u8]) {
+        let (calls, good) = decode(input);
+        let mut bank = Bank::new();
+        for call in calls {
+            self.listed(&mut bank, &call);
+        }
+        if !good {
+            self.text += "bad list\n";
+        }
+    }
+
+    /// Makes one call, and shows all that it sends and changes.
+    fn listed(&mut self, bank: &mut Bank, call: &Call) {
+        let before = bank.table;
+        let (answer, out) = bank.call(call);
+        self.count(call_kind(call, answer, &out));
+        self.text += &station_text(answer);
+        let end = end_of(answer);
+        if end > 0 {
+            self.text += &format!(":{}", hex(&out[..end]));
+        }
+        if out[end..].iter().any(|&byte| byte != BEFORE) {
+            self.text += ", output changed behind";
+        }
+        if bank.table != before {
+            let values = bank.table.map(|value| format!(" {value:04X}"));
+            self.text += &format!(", registers{}", values.concat());
+        }
+        self.text += "\n";
+    }
+
+    /// A run read from a table in which the values say their places.
+    fn numbered_read(&mut self, start: u16, count: u8) {
+        let mut bank = Bank {
+            table: std::array::from_fn(|place| 0xA000 + place as u16),
+        };
+        let [high, low] = start.to_be_bytes();
+        let call = Call {
+            own: 0x55,
+            places: 18,
+            room: 1024,
+            telegram: vec![0x60, 0xFF, 0x55, 0, 0, 0, high, low, count, 0, 0, 0],
+        };
+        self.text += &format!("numbered table, {count} from {start}: ");
+        self.listed(&mut bank, &call);
+    }
+
+    fn station_limit(&mut self, call: &Call) {
+        let mut bank = Bank::new();
+        let before = bank.table;
+        let (answer, out) = bank.call(call);
+        self.count(call_kind(call, answer, &out));
+        let telegram = &call.telegram;
+        let start = match telegram.get(..16) {
+            Some(start) if telegram.len() > 16 => hex(start) + " ..",
+            _ => hex(telegram),
+        };
+        let registers = if bank.table == before {
+            "kept"
+        } else {
+            "changed"
+        };
+        self.text += &format!(
+            "own {}, table {}, output {}, length {}, telegram{start}: {}, registers {registers}{}\n",
+            call.own,
+            call.places,
+            call.room,
+            telegram.len(),
+            station_text(answer),
+            changes_text(&out, end_of(answer))
+        );
+    }
+}
 
 /// Frames at their limits: the value of all data bytes, their number, and the places of the output.
 const FRAMES: [(u8, usize, usize); 10] = [
@@ -204,6 +310,91 @@ const EVENTS: [(usize, Event, usize); 14] = [
     (1025, Event::Byte(0x10), 1025),
 ];
 
+/// The station's call at its limits.
+fn station_limits() -> Vec<Call> {
+    // A request whose first 12 bytes ask for nothing.
+    let request = |first: u8, second: u8| {
+        let mut bytes = vec![0; 1025];
+        bytes[..4].copy_from_slice(&[0x60, 0xFF, first, second]);
+        bytes
+    };
+    let at = |own: u8, places: usize, telegram: &[u8], room: usize| Call {
+        own,
+        places,
+        room,
+        telegram: telegram.to_vec(),
+    };
+    let destination = |n: usize, room| at(0x55, 18, &request(0x55, 0)[..n], room);
+    let relay = |n: usize, room| at(0x55, 18, &request(0x55, 0x56)[..n], room);
+    let extended = |count: u8, n: usize| {
+        let mut bytes = request(0xEF, 0xEF);
+        bytes[4..8].copy_from_slice(&[0xEF, 0xEF, count, 0x55]);
+        at(0x55, 18, &bytes[..n], 1024)
+    };
+    let runs = |read: u16, reads: u8, write: u16, writes: u8, n: usize, room| {
+        let mut bytes = request(0x55, 0);
+        bytes[6..8].copy_from_slice(&read.to_be_bytes());
+        bytes[8] = reads;
+        bytes[9..11].copy_from_slice(&write.to_be_bytes());
+        bytes[11] = writes;
+        bytes[13] = 1;
+        at(0x55, 18, &bytes[..n], room)
+    };
+
+    let mut calls = Vec::new();
+    calls.extend([0, 1, 240, 241, 255].map(|own| at(own, 18, &request(own, 0)[..12], 1024)));
+    calls.extend([0, 17, 18, 19].map(|places| at(0x55, places, &request(0x55, 0)[..12], 1024)));
+    calls.extend([0, 1, 2, 32, 33, 255].map(|count| extended(count, 13 + usize::from(count))));
+    calls.extend((0..=7).map(|n| destination(n, 1024)));
+    calls.extend([5, 6, 7].map(|n| relay(n, 1024)));
+    let cuts = [
+        (32, 5),
+        (32, 6),
+        (32, 7),
+        (33, 6),
+        (33, 7),
+        (32, 38),
+        (32, 39),
+    ];
+    calls.extend(cuts.map(|(count, n)| extended(count, n)));
+    calls.extend([1024, 1025].map(|n| destination(n, 1024)));
+    calls.extend([(1024, 1024), (1025, 1025), (1025, 0)].map(|(n, room)| relay(n, room)));
+    calls.extend([11, 12, 13, 0].map(|room| relay(12, room)));
+    calls.push(relay(1024, 1023));
+    calls.extend([8, 9, 10, 0].map(|room| destination(12, room)));
+    calls.extend([24, 25, 26].map(|room| runs(955, 8, 300, 1, 14, room)));
+    for (read, reads, write, writes, n) in RUNS {
+        calls.push(runs(read, reads, write, writes, n, 1024));
+    }
+    calls
+}
+
+/// Bodies at their limits: two runs, and the telegram's length.
+const RUNS: [(u16, u8, u16, u8, usize); 19] = [
+    (65535, 0, 65535, 0, 12),
+    (65535, 1, 65535, 0, 12),
+    (65535, 2, 65535, 0, 12),
+    (65535, 0, 65535, 1, 14),
+    (65535, 0, 65535, 2, 16),
+    (955, 255, 300, 0, 12),
+    (65535, 255, 300, 0, 12),
+    (955, 0, 955, 255, 522),
+    (955, 0, 65535, 255, 522),
+    (955, 255, 955, 255, 522),
+    (955, 0, 955, 255, 521),
+    (955, 0, 955, 255, 523),
+    (955, 0, 955, 255, 12),
+    (955, 1, 300, 0, 11),
+    (955, 1, 300, 0, 12),
+    (955, 1, 300, 0, 13),
+    (955, 1, 300, 1, 13),
+    (955, 1, 300, 1, 14),
+    (955, 1, 300, 1, 15),
+];
+
+/// Runs that are read from a numbered table.
+const READS: [(u16, u8); 5] = [(2, 1), (300, 1), (931, 6), (952, 2), (955, 8)];
+
 /// The place from `from` on that changed, if one did; a call may change no more.
 fn changes_text(bytes: &[u8], from: usize) -> String {
     let changed: Vec<usize> = (from..bytes.len())
@@ -238,6 +429,22 @@ fn answer_text(answer: Answer) -> String {
     }
 }
 
+fn station_text(answer: station::Answer) -> String {
+    match answer {
+        station::Answer::Sent(length) => format!("sent {length}"),
+        station::Answer::NotMine => "not mine".into(),
+        station::Answer::Refused(number) => format!("refused {number}"),
+    }
+}
+
+/// The place of the output behind what was sent.
+fn end_of(answer: station::Answer) -> usize {
+    match answer {
+        station::Answer::Sent(length) => length,
+        _ => 0,
+    }
+}
+
 fn frame_kind(framed: Result<usize, u8>) -> &'static str {
     match framed {
         Ok(_) => "frame written",
@@ -268,9 +475,52 @@ fn kind(phase: Phase, event: Event, answer: Answer) -> &'static str {
     }
 }
 
+/// The kind of a station's answer to a call.
+fn call_kind(call: &Call, answer: station::Answer, out: &[u8]) -> &'static str {
+    let telegram = &call.telegram;
+    let extended = telegram.get(3..6) == Some(&[0xEF; 3]);
+    let count = telegram.get(6).copied();
+    let next = telegram.get(if extended { 8 } else { 3 });
+    match answer {
+        station::Answer::NotMine => "station: not mine",
+        station::Answer::Sent(_) => match (telegram[0], out[0], extended) {
+            (0x60, 0x60, false) => "station: sent as relay of a standard request",
+            (0xE0, 0xE0, false) => "station: sent as relay of a standard reply",
+            (0x60, 0xE0, false) => "station: sent as destination, standard",
+            (0x60, 0x60, true) => "station: sent as relay of an extended request",
+            (0xE0, 0xE0, true) => "station: sent as relay of an extended reply",
+            (0x60, 0xE0, true) => "station: sent as destination, extended",
+            _ => "another answer",
+        },
+        station::Answer::Refused(number) => match number {
+            1 if (1..=240).contains(&call.own) => "station: refused 1, table",
+            1 => "station: refused 1, address",
+            2 if telegram.len() < 6 => "station: refused 2, under 6 bytes",
+            2 if telegram.len() < 7 => "station: refused 2, under 7 bytes",
+            2 => "station: refused 2, entries missing",
+            3 => "station: refused 3",
+            4 if count < Some(2) => "station: refused 4, under 2",
+            4 => "station: refused 4, over 32",
+            5 if extended => "station: refused 5, extended",
+            5 => "station: refused 5, standard",
+            6 if telegram[2] == 0 => "station: refused 6, mark 00",
+            6 => "station: refused 6, mark EF",
+            7 => "station: refused 7",
+            8 => "station: refused 8",
+            9 => "station: refused 9",
+            10 => "station: refused 10",
+            11 if telegram[0] == 0x60 && next == Some(&0) => "station: refused 11, destination",
+            11 => "station: refused 11, relay",
+            12 => "station: refused 12",
+            _ => "another answer",
+        },
+    }
+}
+
 #[cfg(test)]
 mod tests {
     use super::*;
+    use crate::calls::encode;
 
     fn text(mode: Mode, input: &[u8]) -> String {
         let (name, input, piece) = (String::new(), input.to_vec(), 1);
@@ -299,5 +549,30 @@ mod tests {
             fed 13: sends 10, message of 0\nmessage\n";
         let bytes = [0x41, 0x15, 0x02, 0x10, 0x03, 0x13];
         assert_eq!(text(Mode::Listen, &bytes), lines);
+    }
+
+    #[test]
+    fn stations() {
+        let call = |own, room, telegram: &[u8]| Call {
+            own,
+            places: 18,
+            room,
+            telegram: telegram.to_vec(),
+        };
+        let request = [
+            0x60, 0xFF, 0x55, 0x00, 0x12, 0x13, 0x03, 0xBB, 0x01, 0x01, 0x2C, 0x01, 0x00, 0x01,
+        ];
+        let mut list = encode(&[
+            call(0x12, 1024, &request),
+            call(0x55, 10, &request),
+            call(0x55, 11, &request),
+            call(0x55, 11, &request),
+        ]);
+        let lines = "not mine\nrefused 11\nsent 11: E0 FF 13 55 00 12 03 BB 01 00 00, registers \
+            0000 0001 0000 0000 0000 0000 0000 0000 000F 0002 0000 0000 FFFF 001E 003C 000F 001E 0000 \
+            EEEE EEEE\nsent 11: E0 FF 13 55 00 12 03 BB 01 00 00\n";
+        assert_eq!(text(Mode::Station, &list), lines);
+        list.push(0);
+        assert_eq!(text(Mode::Station, &list), lines.to_owned() + "bad list\n");
     }
 }

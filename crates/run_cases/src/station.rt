@@ -1,0 +1,160 @@
+// A station on the screen: the calls that standard input lists, each with its answer.
+use crate::limits;
+use crate::limits::BEFORE;
+use crate::show;
+use libc::STDIN_FILENO;
+use mop_station::StationAnswer;
+use registers::TABLE_LENGTH;
+
+// The places of a table.
+pub(crate) const PLACES: usize = 20;
+
+// The most places of an output, and the most bytes of a telegram.
+const MOST: usize = 1100;
+
+// A table as it leaves the factory, with two places more.
+pub(crate) fn factory_table() -> [u16; PLACES] {
+    let values = registers::factory();
+    let mut table = [0xEEEEu16; PLACES];
+    let mut i: usize = 0;
+    while i < TABLE_LENGTH {
+        table[i] = values[i];
+        i += 1;
+    }
+    table
+}
+
+// Whether two tables have the same values.
+pub(crate) fn same_values(a: &[u16], b: &[u16]) -> bool {
+    if a.len() != b.len() {
+        return false;
+    }
+    let mut i: usize = 0;
+    while i < a.len() {
+        if a[i] != b[i] {
+            return false;
+        }
+        i += 1;
+    }
+    true
+}
+
+// The call with so many places of the table and of the output. Where there are fewer, no call is made.
+pub(crate) fn call(
+    own: u8,
+    table: &mut [u16],
+    lent: usize,
+    telegram: &[u8],
+    out: &mut [u8],
+    places: usize,
+) -> StationAnswer {
+    if table.len() < lent {
+        return StationAnswer::NotMine;
+    }
+    if out.len() < places {
+        return StationAnswer::NotMine;
+    }
+    mop_station::handle(own, &mut table[0..lent], telegram, &mut out[0..places])
+}
+
+// Says so if the output, from n on, is not as it was before the call.
+fn show_behind(out: &[u8], n: usize) {
+    if limits::first_change(out, n) < out.len() {
+        show::text(b", output changed behind");
+    }
+}
+
+// The answer, the bytes that were sent, and a change behind them.
+pub(crate) fn show_answer(answer: StationAnswer, out: &[u8]) {
+    show::station_answer(answer);
+    match answer {
+        StationAnswer::Sent(n) => {
+            if n <= out.len() {
+                show::text(b":");
+                show::bytes(&out[0..n]);
+            }
+            show_behind(out, n);
+        }
+        StationAnswer::NotMine => show_behind(out, 0),
+        StationAnswer::Refused(_) => show_behind(out, 0),
+    }
+}
+
+fn bad_list() -> bool {
+    show::text(b"bad list\n");
+    false
+}
+
+// Reads a telegram of so many bytes into the first places of a buffer, and makes the call.
+fn take_call(
+    own: u8,
+    table: &mut [u16],
+    lent: usize,
+    places: usize,
+    buffer: &mut [u8],
+    length: usize,
+) -> bool {
+    let mut out = [BEFORE; MOST];
+    if table.len() < lent {
+        return bad_list();
+    }
+    if MOST < places {
+        return bad_list();
+    }
+    if buffer.len() < length {
+        return bad_list();
+    }
+    let n = io::read_full(STDIN_FILENO, &mut buffer[0..length]);
+    if n < length {
+        return bad_list();
+    }
+    let answer = call(own, &mut *table, lent, &buffer[0..length], &mut out, places);
+    show_answer(answer, &out);
+    true
+}
+
+// A two-byte number.
+fn number_of(high: u8, low: u8) -> usize {
+    high as usize * 256 + low as usize
+}
+
+// The next call of the list; false if there is none.
+fn next_call(table: &mut [u16]) -> bool {
+    let mut head = [0u8; 6];
+    let mut buffer = [0u8; MOST];
+    let n = io::read_full(STDIN_FILENO, &mut head);
+    if n == 0 {
+        return false;
+    }
+    if n < 6 {
+        return bad_list();
+    }
+    let lent = number_of(0, head[1]);
+    let places = number_of(head[2], head[3]);
+    let length = number_of(head[4], head[5]);
+    take_call(head[0], &mut *table, lent, places, &mut buffer, length)
+}
+
+// The registers, if one changed, and the end of the line.
+fn show_registers(before: &[u16], table: &[u16]) {
+    if !same_values(before, table) {
+        show::text(b", registers");
+        show::words(table);
+    }
+    show::text(b"\n");
+}
+
+// Makes the calls that standard input lists, all with one table. A call is the own address, the places of the table that
+// are lent, those of the output and the telegram's length in two bytes each, the high one first, and the telegram.
+pub(crate) fn make_calls() {
+    let mut table = factory_table();
+    let mut turns = u64::MAX;
+    while turns > 0 {
+        let before = table;
+        if !next_call(&mut table) {
+            return;
+        }
+        show_registers(&before, &table);
+        turns -= 1;
+    }
+}

@@ -1,0 +1,260 @@
+//! Telegrams and their parts, good ones and others, made from a seed.
+
+use crate::inputs::Random;
+use reference::registers::{Row, ROWS};
+
+pub const REQUEST: u8 = 0x60;
+pub const REPLY: u8 = 0xE0;
+pub const FUNCTIONS: [u8; 2] = [REQUEST, REPLY];
+
+/// The control byte of a telegram, unlike that of a newly written one.
+const CONTROL: u8 = 0x5A;
+
+/// The first mark byte that belongs to a block.
+pub fn mark_of(function: u8, block: &[u8]) -> u8 {
+    match block {
+        [0, ..] if function == REPLY => 0x00,
+        _ => 0xEF,
+    }
+}
+
+/// A telegram in the extended form, with any mark.
+pub fn marked(function: u8, mark: u8, block: &[u8], body: &[u8]) -> Vec<u8> {
+    let count = block.len() as u8;
+    let front = [function, CONTROL, mark, 0xEF, 0xEF, 0xEF, count];
+    [&front, block, body].concat()
+}
+
+/// A telegram in the extended form, or else in the standard one.
+pub fn telegram(function: u8, extended: bool, block: &[u8], body: &[u8]) -> Vec<u8> {
+    if extended {
+        marked(function, mark_of(function, block), block, body)
+    } else {
+        [&[function, CONTROL], block, body].concat()
+    }
+}
+
+/// The block's first entry, in a telegram with a good header.
+pub fn first_entry(telegram: &[u8]) -> u8 {
+    match telegram[3..6] {
+        [0xEF, 0xEF, 0xEF] => telegram[7],
+        _ => telegram[2],
+    }
+}
+
+/// The body of a request; the write count is that of the values.
+pub fn body(read: (u16, u8), start: u16, values: &[u16]) -> Vec<u8> {
+    let mut body = read.0.to_be_bytes().to_vec();
+    body.push(read.1);
+    body.extend(start.to_be_bytes());
+    body.push(values.len() as u8);
+    body.extend(values.iter().flat_map(|value| value.to_be_bytes()));
+    body
+}
+
+/// Every form: standard, and extended with so many entries.
+pub fn forms() -> impl Iterator<Item = (bool, usize)> {
+    [(false, 4)].into_iter().chain((2..=32).map(|n| (true, n)))
+}
+
+/// The register of a number.
+pub fn row(number: u16) -> Option<Row> {
+    ROWS.into_iter().find(|row| row.number == number)
+}
+
+/// Every run that exists: its start and its count.
+pub fn all_runs() -> Vec<(u16, u8)> {
+    let mut runs = Vec::new();
+    for start in ROWS.map(|row| row.number) {
+        let exists = |&number: &u16| row(number).is_some();
+        let longest = (start..=u16::MAX).take_while(exists).count();
+        runs.extend((1..=longest).map(|count| (start, count as u8)));
+    }
+    runs
+}
+
+/// The runs that may be written.
+pub fn writable_runs() -> Vec<(u16, u8)> {
+    let mut runs = all_runs();
+    runs.retain(|&(start, _)| row(start).is_some_and(|row| row.write));
+    runs
+}
+
+impl Random {
+    pub fn pick<T: Copy>(&mut self, from: &[T]) -> T {
+        from[self.below(from.len())]
+    }
+
+    /// True once in so many times.
+    pub fn once_in(&mut self, times: usize) -> bool {
+        self.below(times) == 0
+    }
+
+    pub fn word(&mut self) -> u16 {
+        self.below(65536) as u16
+    }
+
+    pub fn bytes(&mut self, length: usize) -> Vec<u8> {
+        (0..length).map(|_| self.byte()).collect()
+    }
+
+    /// An address, often one at an end of the range, or one that looks like a mark.
+    pub fn address(&mut self) -> u8 {
+        match self.below(8) {
+            0 => self.pick(&[0x01, 0xEF, 0xF0]),
+            _ => 1 + self.below(240) as u8,
+        }
+    }
+
+    /// A good block of so many stations and entries, rolled left by so many places.
+    pub fn block(&mut self, stations: usize, entries: usize, by: usize) -> Vec<u8> {
+        let mut block = Vec::new();
+        while block.len() < stations {
+            let address = self.address();
+            if !block.contains(&address) {
+                block.push(address);
+            }
+        }
+        block.resize(entries, 0);
+        block.rotate_left(by);
+        block
+    }
+
+    /// A good block of so many entries. Half of those that name a station begin with the
+    /// destination of a request.
+    pub fn some_block(&mut self, entries: usize) -> Vec<u8> {
+        let stations = self.below(entries);
+        let by = match stations {
+            1.. if self.once_in(2) => stations - 1,
+            _ => self.below(entries),
+        };
+        self.block(stations, entries, by)
+    }
+
+    /// A value that a register takes, often one at an end of its range.
+    pub fn good_value(&mut self, row: Row) -> u16 {
+        match self.below(4) {
+            0 => row.low,
+            1 => row.high,
+            2 => row.also.unwrap_or(row.high),
+            _ => row.low + self.below(usize::from(row.high - row.low) + 1) as u16,
+        }
+    }
+
+    /// A value that a register does not take; any value where it takes all.
+    pub fn bad_value(&mut self, row: Row) -> u16 {
+        let (under, over) = (row.low.wrapping_sub(1), row.high.wrapping_add(1));
+        let any = self.word();
+        let mut values = vec![under, over, row.high | 0x8000, 65534, 65535, self.word()];
+        values.retain(|&value| !row.takes(value));
+        match values[..] {
+            [] => any,
+            _ => self.pick(&values),
+        }
+    }
+
+    /// Values that the registers of a run take; anything for a number without one.
+    pub fn good_values(&mut self, start: u16, count: u8) -> Vec<u16> {
+        (0..u16::from(count))
+            .map(|i| match row(start.wrapping_add(i)) {
+                Some(row) => self.good_value(row),
+                None => self.word(),
+            })
+            .collect()
+    }
+
+    /// A body that a destination accepts.
+    pub fn good_body(&mut self) -> Vec<u8> {
+        let nothing = (self.word(), 0);
+        let read = match self.below(4) {
+            0 => nothing,
+            _ => self.pick(&all_runs()),
+        };
+        let (start, count) = match self.below(4) {
+            0 => nothing,
+            _ => self.pick(&writable_runs()),
+        };
+        body(read, start, &self.good_values(start, count))
+    }
+
+    /// A body that a destination may well refuse.
+    fn odd_body(&mut self) -> Vec<u8> {
+        let mut body = self.good_body();
+        let at = self.below(body.len());
+        match self.below(5) {
+            0 => body[at] = self.byte(),
+            1 => body[at] ^= 1 << self.below(8),
+            2 => body.truncate(at),
+            3 => body.push(self.byte()),
+            _ => body = self.bytes(at),
+        }
+        body
+    }
+
+    /// A body, most often one that is accepted.
+    pub fn some_body(&mut self) -> Vec<u8> {
+        match self.below(3) {
+            0 => self.odd_body(),
+            _ => self.good_body(),
+        }
+    }
+
+    /// A telegram with a good header.
+    pub fn some_telegram(&mut self) -> Vec<u8> {
+        let (extended, entries) = match self.below(4) {
+            0 | 1 => (false, 4),
+            2 => (true, 2 + self.below(7)),
+            _ => (true, 2 + self.below(31)),
+        };
+        let function = self.pick(&[REQUEST, REQUEST, REPLY]);
+        let block = self.some_block(entries);
+        let mut telegram = telegram(function, extended, &block, &self.some_body());
+        telegram[1] = self.byte();
+        telegram
+    }
+
+    /// Changes a telegram at one place or at its end.
+    pub fn change(&mut self, telegram: &mut Vec<u8>) {
+        let byte = match self.below(3) {
+            0 => self.byte(),
+            _ => self.pick(&[0x00, 0x01, 0x60, 0xE0, 0xEF, 0xF0, 0xF1, 0xFF]),
+        };
+        let at = self.below(telegram.len() + 1);
+        match self.below(8) {
+            0 if at < telegram.len() => drop(telegram.remove(at)),
+            1 => telegram.insert(at, byte),
+            2 => telegram.truncate(at),
+            3 => {
+                let length = self.pick(&[at, 1023, 1024, 1025]);
+                let more = length.saturating_sub(telegram.len());
+                telegram.extend(self.bytes(more));
+            }
+            _ if at < telegram.len() => telegram[at] = byte,
+            _ => telegram.push(byte),
+        }
+    }
+}
+
+#[cfg(test)]
+mod tests {
+    use super::*;
+
+    #[test]
+    fn runs() {
+        let runs = all_runs();
+        assert_eq!(runs.len(), 1 + 1 + 21 + 3 + 36);
+        assert!(runs.contains(&(955, 8)) && !runs.contains(&(953, 2)));
+        assert_eq!(writable_runs().len(), 1 + 3 + 36);
+    }
+
+    #[test]
+    fn values() {
+        let mut random = Random::new(1);
+        for row in ROWS.into_iter().filter(|row| row.write) {
+            for _ in 0..100 {
+                assert!(row.takes(random.good_value(row)));
+                assert!(!row.takes(random.bad_value(row)));
+            }
+        }
+    }
+}
