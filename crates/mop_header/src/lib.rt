@@ -40,11 +40,11 @@ pub enum Form {
     Extended(u8),
 }
 
-// The header of a telegram. The block is the first count entries.
+// The header of a telegram. The block is the first count entries; other crates see it by the methods.
 pub struct Header {
     pub function: Function,
-    pub control: u8,
-    pub form: Form,
+    control: u8,
+    form: Form,
     count: usize,
     entries: [u8; MAX_ENTRIES],
 }

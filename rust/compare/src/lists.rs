@@ -74,12 +74,8 @@ fn ends() -> Vec<Case> {
 /// A call of the station that the telegram names first, with the whole table and an
 /// ample output.
 fn call(telegram: Vec<u8>) -> Call {
-    let own = match telegram.len() {
-        8.. => first_entry(&telegram).max(1),
-        _ => OWN,
-    };
     Call {
-        own,
+        own: first_entry(&telegram).max(1),
         places: COUNT,
         room: MOST,
         telegram,

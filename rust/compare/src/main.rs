@@ -5,6 +5,7 @@
 
 mod calls;
 mod inputs;
+mod limits;
 mod lists;
 mod run;
 mod telegrams;

@@ -34,12 +34,18 @@ pub fn telegram(function: u8, extended: bool, block: &[u8], body: &[u8]) -> Vec<
     }
 }
 
-/// The block's first entry, in a telegram with a good header.
+/// Whether a telegram is in the extended form.
+pub fn is_extended(telegram: &[u8]) -> bool {
+    matches!(
+        telegram,
+        [_, _, 0xEF, 0xEF, 0xEF, 0xEF, ..] | [REPLY, _, 0x00, 0xEF, 0xEF, 0xEF, ..]
+    )
+}
+
+/// The first entry of the block; 00 where it is missing.
 pub fn first_entry(telegram: &[u8]) -> u8 {
-    match telegram[3..6] {
-        [0xEF, 0xEF, 0xEF] => telegram[7],
-        _ => telegram[2],
-    }
+    let place = if is_extended(telegram) { 7 } else { 2 };
+    telegram.get(place).copied().unwrap_or(0)
 }
 
 /// The body of a request; the write count is that of the values.

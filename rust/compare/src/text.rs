@@ -2,13 +2,15 @@
 
 use crate::calls::{decode, Bank, Call, BEFORE};
 use crate::inputs::{Case, Mode};
+use crate::limits;
+use crate::telegrams::is_extended;
 use reference::link::{frame, receive, Answer, Event, Phase, State};
 use reference::link::{BAD_STATE, DATA_TOO_LONG, DLE, MAX_DATA, NAK, OUTPUT_TOO_SHORT, STX};
 use reference::station;
 use std::collections::BTreeMap;
 
 /// The kinds of answer that a run must reach.
-pub const KINDS: [&str; 41] = [
+pub const KINDS: [&str; 42] = [
     "frame written",
     "refused 11",
     "refused 12",
@@ -40,6 +42,7 @@ pub const KINDS: [&str; 41] = [
     "station: refused 4, under 2",
     "station: refused 4, over 32",
     "station: refused 5, standard",
+    "station: refused 5, 00 EF EF EF",
     "station: refused 5, extended",
     "station: refused 6, mark 00",
     "station: refused 6, mark EF",
@@ -149,10 +152,10 @@ impl Expected {
                 self.event_limit(phase, count, event, places);
             }
         }
-        for call in station_limits() {
+        for call in limits::calls() {
             self.station_limit(&call);
         }
-        for (start, count) in READS {
+        for (start, count) in limits::READS {
             self.numbered_read(start, count);
         }
     }
@@ -310,91 +313,6 @@ const EVENTS: [(usize, Event, usize); 14] = [
     (1025, Event::Byte(0x10), 1025),
 ];
 
-/// The station's call at its limits.
-fn station_limits() -> Vec<Call> {
-    // A request whose first 12 bytes ask for nothing.
-    let request = |first: u8, second: u8| {
-        let mut bytes = vec![0; 1025];
-        bytes[..4].copy_from_slice(&[0x60, 0xFF, first, second]);
-        bytes
-    };
-    let at = |own: u8, places: usize, telegram: &[u8], room: usize| Call {
-        own,
-        places,
-        room,
-        telegram: telegram.to_vec(),
-    };
-    let destination = |n: usize, room| at(0x55, 18, &request(0x55, 0)[..n], room);
-    let relay = |n: usize, room| at(0x55, 18, &request(0x55, 0x56)[..n], room);
-    let extended = |count: u8, n: usize| {
-        let mut bytes = request(0xEF, 0xEF);
-        bytes[4..8].copy_from_slice(&[0xEF, 0xEF, count, 0x55]);
-        at(0x55, 18, &bytes[..n], 1024)
-    };
-    let runs = |read: u16, reads: u8, write: u16, writes: u8, n: usize, room| {
-        let mut bytes = request(0x55, 0);
-        bytes[6..8].copy_from_slice(&read.to_be_bytes());
-        bytes[8] = reads;
-        bytes[9..11].copy_from_slice(&write.to_be_bytes());
-        bytes[11] = writes;
-        bytes[13] = 1;
-        at(0x55, 18, &bytes[..n], room)
-    };
-
-    let mut calls = Vec::new();
-    calls.extend([0, 1, 240, 241, 255].map(|own| at(own, 18, &request(own, 0)[..12], 1024)));
-    calls.extend([0, 17, 18, 19].map(|places| at(0x55, places, &request(0x55, 0)[..12], 1024)));
-    calls.extend([0, 1, 2, 32, 33, 255].map(|count| extended(count, 13 + usize::from(count))));
-    calls.extend((0..=7).map(|n| destination(n, 1024)));
-    calls.extend([5, 6, 7].map(|n| relay(n, 1024)));
-    let cuts = [
-        (32, 5),
-        (32, 6),
-        (32, 7),
-        (33, 6),
-        (33, 7),
-        (32, 38),
-        (32, 39),
-    ];
-    calls.extend(cuts.map(|(count, n)| extended(count, n)));
-    calls.extend([1024, 1025].map(|n| destination(n, 1024)));
-    calls.extend([(1024, 1024), (1025, 1025), (1025, 0)].map(|(n, room)| relay(n, room)));
-    calls.extend([11, 12, 13, 0].map(|room| relay(12, room)));
-    calls.push(relay(1024, 1023));
-    calls.extend([8, 9, 10, 0].map(|room| destination(12, room)));
-    calls.extend([24, 25, 26].map(|room| runs(955, 8, 300, 1, 14, room)));
-    for (read, reads, write, writes, n) in RUNS {
-        calls.push(runs(read, reads, write, writes, n, 1024));
-    }
-    calls
-}
-
-/// Bodies at their limits: two runs, and the telegram's length.
-const RUNS: [(u16, u8, u16, u8, usize); 19] = [
-    (65535, 0, 65535, 0, 12),
-    (65535, 1, 65535, 0, 12),
-    (65535, 2, 65535, 0, 12),
-    (65535, 0, 65535, 1, 14),
-    (65535, 0, 65535, 2, 16),
-    (955, 255, 300, 0, 12),
-    (65535, 255, 300, 0, 12),
-    (955, 0, 955, 255, 522),
-    (955, 0, 65535, 255, 522),
-    (955, 255, 955, 255, 522),
-    (955, 0, 955, 255, 521),
-    (955, 0, 955, 255, 523),
-    (955, 0, 955, 255, 12),
-    (955, 1, 300, 0, 11),
-    (955, 1, 300, 0, 12),
-    (955, 1, 300, 0, 13),
-    (955, 1, 300, 1, 13),
-    (955, 1, 300, 1, 14),
-    (955, 1, 300, 1, 15),
-];
-
-/// Runs that are read from a numbered table.
-const READS: [(u16, u8); 5] = [(2, 1), (300, 1), (931, 6), (952, 2), (955, 8)];
-
 /// The place from `from` on that changed, if one did; a call may change no more.
 fn changes_text(bytes: &[u8], from: usize) -> String {
     let changed: Vec<usize> = (from..bytes.len())
@@ -478,7 +396,7 @@ fn kind(phase: Phase, event: Event, answer: Answer) -> &'static str {
 /// The kind of a station's answer to a call.
 fn call_kind(call: &Call, answer: station::Answer, out: &[u8]) -> &'static str {
     let telegram = &call.telegram;
-    let extended = telegram.get(3..6) == Some(&[0xEF; 3]);
+    let extended = is_extended(telegram);
     let count = telegram.get(6).copied();
     let next = telegram.get(if extended { 8 } else { 3 });
     match answer {
@@ -502,6 +420,7 @@ fn call_kind(call: &Call, answer: station::Answer, out: &[u8]) -> &'static str {
             4 if count < Some(2) => "station: refused 4, under 2",
             4 => "station: refused 4, over 32",
             5 if extended => "station: refused 5, extended",
+            5 if telegram[2..6] == [0, 0xEF, 0xEF, 0xEF] => "station: refused 5, 00 EF EF EF",
             5 => "station: refused 5, standard",
             6 if telegram[2] == 0 => "station: refused 6, mark 00",
             6 => "station: refused 6, mark EF",
