@@ -39,8 +39,8 @@ count a (x ∷ xs) = one (eqb a x) + count a xs
 abbrev pub Once : List ℕ → Type 0
 Once b = (a : ℕ) → count (suc a) b ≤ one (isAddress (suc a))
 
--- the view of a block: the station that is first, those ahead behind it, the 00s, of which there is one more than gap, and
--- those passed
+-- the view of a block: the station that is first, the others still ahead, the 00s, of which there is one more than gap, and
+-- the stations passed
 pub record Zipper (b : List ℕ) : Type 0 where
   pub here : ℕ
   pub ahead : List ℕ

@@ -49,8 +49,8 @@ unfoldable pub sending : Given → Handled
 sending (filled n) = sent n
 sending (refused k) = refuses k
 
--- a relay rolls a request left; a reply it sends back. All the rest of the header stays, the control byte too, and neither
--- body nor registers are looked at
+-- a relay rolls a request left; a reply it sends back. But for the mark of a reply all the rest of the header stays, the
+-- control byte too, and neither body nor registers are looked at
 unfoldable pub relayed : Function → Head → Head
 relayed Request h = rolledLeft h
 relayed Reply h = sentBack h

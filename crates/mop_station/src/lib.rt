@@ -167,7 +167,7 @@ fn write_registers(body: &[u8], registers: &mut [u16])
 // Room for the longest body of a reply: three bytes, and the values of the longest run.
 const REPLY_BODY: usize = 19;
 
-// The body of the reply in the first places: the values stand from the place of the body's read start on.
+// The body of the reply in the first places: its values are those of the table from the place of the read start on.
 fn reply_body(body: &[u8], registers: &[u16]) -> [u8; REPLY_BODY]
     requires { ⌜ 6 ≤ length (now body) ⌝ }
     requires { ⌜ readCount (now body) ≤ longestRun ⌝ }

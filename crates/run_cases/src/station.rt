@@ -9,7 +9,7 @@ use registers::TABLE_LENGTH;
 // The places of a table.
 pub(crate) const PLACES: usize = 20;
 
-// The most places of an output, and the most bytes of a telegram.
+// The most places of an output, and the most bytes of a telegram, in a listed call.
 const MOST: usize = 1100;
 
 // A table as it leaves the factory, with two places more.
@@ -39,7 +39,8 @@ pub(crate) fn same_values(a: &[u16], b: &[u16]) -> bool {
     true
 }
 
-// The call with so many places of the table and of the output. Where there are fewer, no call is made.
+// The call with so many places of the table and of the output. Where there are fewer, no call is made, and the answer is
+// NotMine.
 pub(crate) fn call(
     own: u8,
     table: &mut [u16],
@@ -57,7 +58,7 @@ pub(crate) fn call(
     mop_station::handle(own, &mut table[0..lent], telegram, &mut out[0..places])
 }
 
-// Says so if the output, from n on, is not as it was before the call.
+// Says if the output, from n on, is not as it was before the call.
 fn show_behind(out: &[u8], n: usize) {
     if limits::first_change(out, n) < out.len() {
         show::text(b", output changed behind");
@@ -118,7 +119,7 @@ fn number_of(high: u8, low: u8) -> usize {
     high as usize * 256 + low as usize
 }
 
-// The next call of the list; false if there is none.
+// The next call of the list; false if there is none, or the list is bad.
 fn next_call(table: &mut [u16]) -> bool {
     let mut head = [0u8; 6];
     let mut buffer = [0u8; MOST];
@@ -144,8 +145,9 @@ fn show_registers(before: &[u16], table: &[u16]) {
     show::text(b"\n");
 }
 
-// Makes the calls that standard input lists, all with one table. A call is the own address, the places of the table that
-// are lent, those of the output and the telegram's length in two bytes each, the high one first, and the telegram.
+// Makes the calls that standard input lists, all with one table. A call is the own address and the places of the table
+// that are lent, one byte each, the places of the output and the telegram's length, two bytes each, the high one first,
+// and the telegram. The turns are counted down from a number that no run uses up.
 pub(crate) fn make_calls() {
     let mut table = factory_table();
     let mut turns = u64::MAX;

@@ -88,7 +88,7 @@ fn extended_case(count: u8, n: usize) {
     call_55(&t, n, 1024);
 }
 
-// All of it: so many entries, and a body that asks for nothing.
+// A whole extended request: so many entries, and a body that asks for nothing.
 fn count_case(count: u8) {
     extended_case(count, 13 + count as usize);
 }
@@ -134,7 +134,7 @@ fn body_case(rstart: u16, reads: u8, wstart: u16, writes: u8, n: usize, places: 
     call_55(&t, n, places);
 }
 
-// A table in which the values say their places.
+// A table in which each value is A000 and its place.
 fn numbered_table() -> [u16; PLACES] {
     let mut table = [0u16; PLACES];
     let mut i: usize = 0;
