@@ -5,7 +5,8 @@ use crate::inputs::{Case, Mode};
 use crate::limits;
 use crate::telegrams::is_extended;
 use reference::link::{frame, receive, Answer, Event, Phase, State};
-use reference::link::{BAD_STATE, DATA_TOO_LONG, DLE, MAX_DATA, NAK, OUTPUT_TOO_SHORT, STX};
+use reference::link::{DLE, MAX_DATA, NAK, STX};
+use reference::refusal::{BAD_SETUP, OUTPUT_TOO_SHORT, TOO_LONG};
 use reference::station;
 use std::collections::BTreeMap;
 
@@ -367,7 +368,7 @@ fn frame_kind(framed: Result<usize, u8>) -> &'static str {
     match framed {
         Ok(_) => "frame written",
         Err(OUTPUT_TOO_SHORT) => "refused 11",
-        Err(DATA_TOO_LONG) => "refused 12",
+        Err(TOO_LONG) => "refused 12",
         Err(_) => "another answer",
     }
 }
@@ -375,7 +376,7 @@ fn frame_kind(framed: Result<usize, u8>) -> &'static str {
 /// The kind of an answer to an event in a phase.
 fn kind(phase: Phase, event: Event, answer: Answer) -> &'static str {
     match (answer, phase, event) {
-        (Answer::Refused(BAD_STATE), _, _) => "refused 1",
+        (Answer::Refused(BAD_SETUP), _, _) => "refused 1",
         (Answer::Nothing, _, Event::Timer) => "nothing for the timer",
         (Answer::Send(NAK), _, Event::Timer) => "NAK for the timer",
         (Answer::Nothing, _, _) => "nothing",

@@ -2,6 +2,8 @@
 //!
 //! Reading and writing are total: no telegram makes them panic.
 
+use crate::refusal::{BAD_BLOCK, BAD_COUNT, BAD_FUNCTION, BAD_MARK, HEADER_CUT_SHORT, TOO_LONG};
+
 /// Function byte of a request.
 pub const REQUEST: u8 = 0x60;
 /// Function byte of a reply.
@@ -24,19 +26,6 @@ pub const MAX_TELEGRAM: usize = 1024;
 pub const MIN_EXTENDED: u8 = 2;
 /// Most entries of an extended block.
 pub const MAX_EXTENDED: u8 = 32;
-
-/// Refusal: the telegram ends within its header.
-pub const HEADER_CUT_SHORT: u8 = 2;
-/// Refusal: the reader does not take telegrams of this function.
-pub const BAD_FUNCTION: u8 = 3;
-/// Refusal: an extended block of a length that cannot be.
-pub const BAD_COUNT: u8 = 4;
-/// Refusal: the addresses of the block do not go together.
-pub const BAD_BLOCK: u8 = 5;
-/// Refusal: an extended reply's mark says something else than its block.
-pub const BAD_MARK: u8 = 6;
-/// Refusal: the telegram is longer than any telegram may be.
-pub const TELEGRAM_TOO_LONG: u8 = 12;
 
 /// The two kinds of telegram.
 #[derive(Clone, Copy, PartialEq, Eq, Debug)]
@@ -165,7 +154,7 @@ pub fn is_good_block(block: &[u8]) -> bool {
 /// The faults are looked for in a fixed order; the first one found is given.
 pub fn read(reader: Reader, telegram: &[u8]) -> Result<(Header, &[u8]), u8> {
     if telegram.len() > MAX_TELEGRAM {
-        return Err(TELEGRAM_TOO_LONG);
+        return Err(TOO_LONG);
     }
     let &[function, control, a, b, c, d, ref rest @ ..] = telegram else {
         return Err(HEADER_CUT_SHORT);

@@ -7,5 +7,6 @@
 
 pub mod header;
 pub mod link;
+pub mod refusal;
 pub mod registers;
 pub mod station;

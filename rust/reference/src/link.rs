@@ -2,6 +2,7 @@
 //!
 //! Both functions are total: no argument makes them panic.
 
+use crate::refusal::{BAD_SETUP, OUTPUT_TOO_SHORT, TOO_LONG};
 use std::iter::repeat_n;
 
 /// Opens a block.
@@ -15,13 +16,6 @@ pub const NAK: u8 = 0x15;
 
 /// Most data bytes in one block, counted before any doubling.
 pub const MAX_DATA: usize = 1024;
-
-/// Refusal: the state's count does not fit the buffer that came with it.
-pub const BAD_STATE: u8 = 1;
-/// Refusal: the output cannot hold the whole frame.
-pub const OUTPUT_TOO_SHORT: u8 = 11;
-/// Refusal: more data than one block may carry.
-pub const DATA_TOO_LONG: u8 = 12;
 
 /// Where the receiver stands within a block.
 #[derive(Clone, Copy, PartialEq, Eq, Debug)]
@@ -82,7 +76,7 @@ const RESTING: State = State {
 /// The frame holds no `STX`. On a refusal `out` is untouched.
 pub fn frame(data: &[u8], out: &mut [u8]) -> Result<usize, u8> {
     if data.len() > MAX_DATA {
-        return Err(DATA_TOO_LONG);
+        return Err(TOO_LONG);
     }
 
     let mut block: Vec<u8> = data
@@ -112,7 +106,7 @@ pub fn receive(state: State, event: Event, buffer: &mut [u8]) -> (Answer, State)
     use Phase::{Inside, Rest, Waiting};
 
     if state.count > buffer.len().min(MAX_DATA) {
-        return (Answer::Refused(BAD_STATE), state);
+        return (Answer::Refused(BAD_SETUP), state);
     }
 
     let reject = (Answer::Send(NAK), RESTING);

@@ -3,20 +3,10 @@
 //! The one public function is total: no argument makes it panic.
 
 use crate::header::{self, Function, FRESH_CONTROL, NOBODY};
+use crate::refusal::{
+    BAD_BODY_LENGTH, BAD_SETUP, NOT_WRITABLE, NO_SUCH_REGISTER, OUTPUT_TOO_SHORT, OUT_OF_RANGE,
+};
 use crate::registers::{self, Table, ROWS};
-
-/// Refusal: the station's own address or its table of registers cannot be.
-pub const BAD_STATION: u8 = 1;
-/// Refusal: the body is not as long as it says.
-pub const BAD_BODY_LENGTH: u8 = 7;
-/// Refusal: a run leaves the registers that exist.
-pub const NO_SUCH_REGISTER: u8 = 8;
-/// Refusal: a register that may only be read would be written.
-pub const NOT_WRITABLE: u8 = 9;
-/// Refusal: a register would get a value that it may not have.
-pub const OUT_OF_RANGE: u8 = 10;
-/// Refusal: the output cannot hold the whole telegram.
-pub const OUTPUT_TOO_SHORT: u8 = 11;
 
 /// What a station gives back for one telegram.
 #[derive(Debug, Clone, Copy, PartialEq, Eq)]
@@ -34,11 +24,11 @@ pub enum Answer {
 /// `registers` and `out` change only if something is sent.
 pub fn handle(own: u8, registers: &mut [u16], telegram: &[u8], out: &mut [u8]) -> Answer {
     if !header::is_address(own) {
-        return Answer::Refused(BAD_STATION);
+        return Answer::Refused(BAD_SETUP);
     }
     // All work is done on a copy, so that a refusal can simply drop it.
     let Ok(mut table) = Table::try_from(&*registers) else {
-        return Answer::Refused(BAD_STATION);
+        return Answer::Refused(BAD_SETUP);
     };
 
     let sent = match answer(own, &mut table, telegram) {
