@@ -1,20 +1,14 @@
--- Copying bytes to places of a list: one step of it, the end, and two copies one behind the other.
+-- Two copies into the places of a list, one behind the other.
 -- Assumes nothing.
 use mathlib.Core.Path.{_≡_, _∙_, ap, subst}
 use mathlib.Core.List.{List, [], _∷_, _++_}
-use Prim.Native.Nat.{ℕ, zero, suc, _+_, _-_, _≤_, _<_}
-use native.Mathlib.Nat.{add-suc, suc-add, zero-add}
-use native.Mathlib.Numerals.{add-one}
+use Prim.Native.Nat.{ℕ, zero, suc, _+_, _-_, _≤_}
+use native.Mathlib.Nat.{suc-add, zero-add}
 use native.Mathlib.Omega.{arith}
-use lib.ListN.{length, getD, take, drop, set, length-append, length-drop}
-use lib.Seq.{sets, drop-cons, length-take-le, take-nil, take-take}
+use lib.ListN.{length, take, drop, length-append, length-drop}
+use lib.Seq.{sets, length-take-le, take-nil, take-take}
 use Rattle.base.proofs.Places.{sets-append, take-sets}
 use Rattle.mop_block.specs.Block.{rolled}
-
-module _ (bytes out : List ℕ) (at i : ℕ) {whole : List ℕ} where
-  pub copy-step : i < length bytes → sets out (at + i) (drop i bytes) ≡ whole →
-      sets (set out (at + i) (getD bytes i 0)) (at + (i + 1)) (drop (i + 1) bytes) ≡ whole
-  copy-step h e = rw (add-one, add-suc) (rw (drop-cons bytes i 0 h) at e)
 
 drop-take : (k n : ℕ) (l : List ℕ) → drop k (take (k + n) l) ≡ take n (drop k l)
 drop-take zero n l = ap (λ (m : ℕ). take m l) (zero-add n)

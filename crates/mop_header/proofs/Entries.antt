@@ -4,7 +4,7 @@ use mathlib.Core.Path.{_≡_, refl, sym, _∙_, ap}
 use mathlib.Core.List.{List, [], _∷_}
 use Prim.Native.Nat.{ℕ, zero, suc, _<_}
 use native.Mathlib.Omega.{arith}
-use lib.ListN.{length, getD, take, drop, take-append-drop}
+use lib.ListN.{length, getD, take, drop, length-take, take-append-drop}
 use lib.Seq.{getD-take, take-append-seam}
 use Rattle.mop_block.specs.Block.{first, next, rolled, rollLeft, rollRight}
 
@@ -20,6 +20,10 @@ module _ (k : ℕ) (l : List ℕ) where
   pub next-entry : 1 < k → next (take k l) ≡ getD l 1 0
   unfolding next
   next-entry h = getD-take k l 1 0 h
+
+  -- an entry at a place, and behind the last one
+  pub entry-at : (place : ℕ) → place < length (take k l) → getD (take k l) place 0 ≡ getD l place 0
+  entry-at place h = getD-take k l place 0 (omega (arith, length-take k l))
 
   -- as many entries as the block has are the block
   pub take-own : (n : ℕ) → n ≡ length (take k l) → take n l ≡ take k l

@@ -4,7 +4,7 @@ use refusal::WriteAnswer;
 ghost use mathlib.Core.Path.{_≡_};
 ghost use Prim.Native.Nat.{_+_, _≤_, _<_};
 ghost use mathlib.Core.List.{_∷_};
-ghost use lib.ListN.{length, take};
+ghost use lib.ListN.{length, getD, take};
 ghost use lib.Seq.{sets};
 ghost use lib.Dec.{eqb};
 ghost use Rattle.base.specs.Choice.{pick};
@@ -67,18 +67,6 @@ pub struct HeaderRead {
     pub header: Header,
 }
 
-// Copies the bytes to the places of out from `at` on.
-fn put(bytes: &[u8], out: &mut [u8], at: usize)
-    requires { ⌜ at + length (now bytes) ≤ length (now out) ⌝ }
-    ensures { λ r. ⌜ now (out .exit) ≡ sets (now (out .entry)) at (now (bytes .entry)) ⌝ }
-{
-    let mut i: usize = 0;
-    while i < bytes.len() {
-        out[at + i] = bytes[i];
-        i += 1;
-    }
-}
-
 // Entries with the first n rolled so many places to the left.
 fn rolled_entries(old: [u8; MAX_ENTRIES], n: usize, by: usize) -> [u8; MAX_ENTRIES]
     requires { ⌜ n ≤ 32 ⌝ }
@@ -86,8 +74,8 @@ fn rolled_entries(old: [u8; MAX_ENTRIES], n: usize, by: usize) -> [u8; MAX_ENTRI
     ensures { λ r. ⌜ take n r ≡ rolled by (take n old) ⌝ }
 {
     let mut new = old;
-    put(&old[by..n], &mut new, 0);
-    put(&old[0..by], &mut new, n - by);
+    places::put(&old[by..n], &mut new, 0);
+    places::put(&old[0..by], &mut new, n - by);
     new
 }
 
@@ -118,7 +106,7 @@ fn with_mark(form: Form, mark: u8) -> Form
 
 impl Header {
     // How many entries the block has.
-    fn size(self) -> usize
+    pub fn entry_count(self) -> usize
         ensures { λ r. ⌜ r ≡ length (headOf self .block) ⌝ }
         ensures { λ r. ⌜ r ≤ 32 ⌝ }
     {
@@ -133,12 +121,24 @@ impl Header {
         ensures { λ r. ⌜ r ≡ headerLength (headOf self) ⌝ }
         ensures { λ r. ⌜ r ≤ 39 ⌝ }
     {
-        let n = self.size();
+        let n = self.entry_count();
         let form = self.form;
         match form {
             Form::Standard => n + 2,
             Form::Extended(_) => n + 7,
         }
+    }
+
+    // The entry of the block at a place; 00 where there is none.
+    pub fn entry(self, place: usize) -> u8
+        ensures { λ r. ⌜ r ≡ getD (headOf self .block) place 0 ⌝ }
+    {
+        let count = self.entry_count();
+        if count <= place {
+            return 0;
+        }
+        let entries = self.entries;
+        entries[place]
     }
 
     // The first entry of the block; 00 where there is none.
@@ -201,7 +201,7 @@ impl Header {
     pub fn rolled_left(self) -> Self
         ensures { λ r. ⌜ headOf r ≡ rolledLeft (headOf self) ⌝ }
     {
-        let n = self.size();
+        let n = self.entry_count();
         if n == 0 {
             return self;
         }
@@ -212,7 +212,7 @@ impl Header {
     pub fn rolled_right(self) -> Self
         ensures { λ r. ⌜ headOf r ≡ rolledRight (headOf self) ⌝ }
     {
-        let n = self.size();
+        let n = self.entry_count();
         if n == 0 {
             return self;
         }
@@ -239,7 +239,7 @@ impl Header {
 }
 
 // The function byte.
-fn function_byte(function: Function) -> u8
+pub fn function_byte(function: Function) -> u8
     ensures { λ r. ⌜ r ≡ functionByte function ⌝ }
 {
     match function {
@@ -255,7 +255,7 @@ fn write_standard(function: u8, control: u8, block: &[u8], out: &mut [u8])
 {
     out[0] = function;
     out[1] = control;
-    put(block, &mut *out, 2);
+    places::put(block, &mut *out, 2);
 }
 
 // Writes an extended header, with a block of so many entries.
@@ -270,7 +270,7 @@ fn write_extended(function: u8, control: u8, mark: u8, count: u8, block: &[u8], 
     out[4] = MARK;
     out[5] = MARK;
     out[6] = count;
-    put(block, &mut *out, 7);
+    places::put(block, &mut *out, 7);
 }
 
 // Writes the bytes of a header.
@@ -278,7 +278,7 @@ fn write_header(header: Header, out: &mut [u8])
     requires { ⌜ headerLength (headOf header) ≤ length (now out) ⌝ }
     ensures { λ r. ⌜ now (out .exit) ≡ sets (now (out .entry)) 0 (headerBytes (headOf header)) ⌝ }
 {
-    let n = header.size();
+    let n = header.entry_count();
     let form = header.form;
     let entries = header.entries;
     let function = header.function;
@@ -311,7 +311,7 @@ pub fn write(header: Header, body: &[u8], out: &mut [u8]) -> WriteAnswer
         return WriteAnswer::Refused(Refusal::OutputShort);
     }
     write_header(header, &mut *out);
-    put(body, &mut *out, n);
+    places::put(body, &mut *out, n);
     WriteAnswer::Written(n + body.len())
 }
 
@@ -393,7 +393,7 @@ fn copied(block: &[u8]) -> [u8; MAX_ENTRIES]
     ensures { λ r. ⌜ take (length (now (block .entry))) r ≡ now (block .entry) ⌝ }
 {
     let mut entries = [0u8; MAX_ENTRIES];
-    put(block, &mut entries, 0);
+    places::put(block, &mut entries, 0);
     entries
 }
 

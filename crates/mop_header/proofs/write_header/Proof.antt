@@ -12,8 +12,8 @@ use borrow.Author.Needs.{needs}
 use Rattle.mop_header.proofs.write_header.Statement.{statement}
 use Rattle.mop_header.proofs.write_header.Tie as tie
 
-size-requires : tie.Need-size-requires
-size-requires c κs = search needs
+entry-count-requires : tie.Need-entry-count-requires
+entry-count-requires c κs = search needs
 
 function-byte-requires : tie.Need-function-byte-requires
 function-byte-requires c κs = search needs
@@ -35,7 +35,7 @@ part-write-standard-end c =
 write-standard-requires : tie.Need-write-standard-requires
 write-standard-requires c κs =
     let h = c .before .before .before .before .before .before .before .before .before .args .header in
-    let own = take-own (h .count) (h .entries) _ (c .before .before .before .before .before .before .before .size .ensures .0) in
+    let own = take-own (h .count) (h .entries) _ (c .before .before .before .before .before .before .before .entry-count .ensures .0) in
     rw (sub-zero, own) (omega (arith, length-standard (headOf h) (c .before .before .before .enum-told .given .1)))
 
 enum-known-form : tie.Need-enum-known-form
@@ -58,7 +58,7 @@ part-write-extended-end c =
 write-extended-requires : tie.Need-write-extended-requires
 write-extended-requires c κs =
     let h = c .before .before .before .before .before .before .before .before .before .before .args .header in
-    let own = take-own (h .count) (h .entries) _ (c .before .before .before .before .before .before .before .before .size .ensures .0) in
+    let own = take-own (h .count) (h .entries) _ (c .before .before .before .before .before .before .before .before .entry-count .ensures .0) in
     rw (sub-zero, own) (omega (arith, length-extended (headOf h) (c .before .before .before .before .form .given .1)))
 
 same-length : tie.Need-same-length
@@ -68,7 +68,7 @@ returns : tie.Need-returns
 returns c =
     let a = c .before .before .before .before .before .before .before .before .before .before .before .before .args in
     let h = a .header in
-    let own = take-own (h .count) (h .entries) _ (c .before .before .before .before .before .before .before .before .before .before .size .ensures .0) in
+    let own = take-own (h .count) (h .entries) _ (c .before .before .before .before .before .before .before .before .before .before .entry-count .ensures .0) in
     rw (c .before .before .write-standard .ensures, sub-zero)
     (standard-stored (headOf h) (a .out .now) (c .before .before .before .before .before .before .before .before .function-byte .ensures) own (c .before .before .before .before .before .before .enum-told .given .1))
 
@@ -79,7 +79,7 @@ returns-2 : tie.Need-returns-2
 returns-2 c =
     let a = c .before .before .before .before .before .before .before .before .before .before .before .before .before .args in
     let h = a .header in
-    let size = c .before .before .before .before .before .before .before .before .before .before .before .size .ensures .0 in
+    let size = c .before .before .before .before .before .before .before .before .before .before .before .entry-count .ensures .0 in
     rw (c .before .before .write-extended .ensures, sub-zero)
     (extended-stored (headOf h) (a .out .now) (c .before .before .before .before .before .before .before .before .before .function-byte .ensures) (take-own (h .count) (h .entries) _ size) (c .before .before .before .before .before .before .before .form .given .1) size)
 
@@ -87,7 +87,7 @@ pub write-header-spec : {M : Type 1} → statement M
 write-header-spec =
     tie.close
     (tie.spec
-    size-requires
+    entry-count-requires
     function-byte-requires
     enum-told
     sub-write-standard

@@ -8,8 +8,8 @@ use borrow.Author.Needs.{needs}
 use Rattle.mop_header.proofs.Header.length.Statement.{statement}
 use Rattle.mop_header.proofs.Header.length.Tie as tie
 
-size-requires : tie.Need-size-requires
-size-requires c κs = search needs
+entry-count-requires : tie.Need-entry-count-requires
+entry-count-requires c κs = search needs
 
 enum-told : tie.Need-enum-told
 enum-told c = search needs
@@ -24,12 +24,12 @@ add-result-2 : tie.Need-add-result-2
 add-result-2 c = omega arith
 
 returns : tie.Need-returns
-returns c = (ap (λ (n : ℕ). n + 2) (c .before .before .size .ensures .0) ∙ sym (length-standard _ (c .enum-told .given .1)), omega arith)
+returns c = (ap (λ (n : ℕ). n + 2) (c .before .before .entry-count .ensures .0) ∙ sym (length-standard _ (c .enum-told .given .1)), omega arith)
 
 returns-2 : tie.Need-returns-2
-returns-2 c = (ap (λ (n : ℕ). n + 7) (c .before .before .size .ensures .0) ∙ sym (length-extended _ (c .enum-told2 .given .1)), omega arith)
+returns-2 c = (ap (λ (n : ℕ). n + 7) (c .before .before .entry-count .ensures .0) ∙ sym (length-extended _ (c .enum-told2 .given .1)), omega arith)
 
 pub length-spec : {M : Type 1} → statement M
 length-spec =
     tie.close
-    (tie.spec size-requires enum-told add-result enum-told-2 add-result-2 returns returns-2)
+    (tie.spec entry-count-requires enum-told add-result enum-told-2 add-result-2 returns returns-2)

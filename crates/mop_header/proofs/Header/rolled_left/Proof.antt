@@ -10,14 +10,14 @@ use borrow.Author.Needs.{needs}
 use Rattle.mop_header.proofs.Header.rolled_left.Statement.{statement}
 use Rattle.mop_header.proofs.Header.rolled_left.Tie as tie
 
-size-requires : tie.Need-size-requires
-size-requires c κs = search needs
+entry-count-requires : tie.Need-entry-count-requires
+entry-count-requires c κs = search needs
 
 returns : tie.Need-returns
 unfolding rolledLeft
 returns c =
     let h = c .before .before .args .self in
-    sym (ap (λ (b : List ℕ). head (h .function) (h .control) (h .form) b) (left-none _ (sym (c .before .size .ensures .0) ∙ c .if1 .taken)))
+    sym (ap (λ (b : List ℕ). head (h .function) (h .control) (h .form) b) (left-none _ (sym (c .before .entry-count .ensures .0) ∙ c .if1 .taken)))
 
 rolled-requires : tie.Need-rolled-requires
 rolled-requires c κs = search needs
@@ -27,4 +27,4 @@ unfolding rolledLeft rollLeft
 returns-2 c = c .rolled .ensures
 
 pub rolled-left-spec : {M : Type 1} → statement M
-rolled-left-spec = tie.close (tie.spec size-requires returns rolled-requires returns-2)
+rolled-left-spec = tie.close (tie.spec entry-count-requires returns rolled-requires returns-2)

@@ -1,4 +1,4 @@
--- `put`: what is copied, and what is left from i on, make the whole. What is left falls.
+-- `copy`: what is copied, and what is left from i on, make the whole. What is left falls.
 -- Assumes nothing.
 use Prim.Native.Nat.{ℕ, _≤_, _+_, _-_}
 use mathlib.Core.Path.{_≡_, refl, sym, _∙_, ap}
@@ -7,9 +7,9 @@ use native.Mathlib.Omega.{arith}
 use native.Mathlib.Nat.{add-zero}
 use lib.ListN.{length, drop, length-set, drop-of-length-le}
 use lib.Seq.{sets}
-use Rattle.mop_header.proofs.Copies.{copy-step}
-use Rattle.mop_header.proofs.put.Statement.{statement}
-use Rattle.mop_header.proofs.put.Tie as tie
+use Rattle.places.proofs.Copies.{copy-step}
+use Rattle.places.proofs.copy.Statement.{statement}
+use Rattle.places.proofs.copy.Tie as tie
 
 abbrev Inv-loop : tie.InvT-loop
 Inv-loop bytes out₀ at i₀ out i =
@@ -51,8 +51,8 @@ returns c =
     let v = c .before .loop in
     sym (ap (λ (l : List ℕ). sets (v .out) (a .at + v .i) l) (drop-of-length-le (a .bytes .now) (c .loop-test .left))) ∙ v .inv .2
 
-pub put-spec : {M : Type 1} → statement M
-put-spec =
+pub copy-spec : {M : Type 1} → statement M
+copy-spec =
     tie.close
     (tie.spec
     Inv-loop
