@@ -87,6 +87,16 @@ fn distinct_stations(b: &[u8]) -> bool
     true
 }
 
+// Whether every number is an address, and no two are equal.
+pub fn distinct_addresses(list: &[u8]) -> bool
+    ensures { λ r. ⌜ r ≡ distinctAddresses (now (list .entry)) ⌝ }
+{
+    if has_from(list, 0, 0) {
+        return false;
+    }
+    distinct_stations(list)
+}
+
 // Whether a block names a station at all.
 pub fn names_somebody(b: &[u8]) -> bool
     ensures { λ r. ⌜ r ≡ ltb 0 (length (stations (now (b .entry)))) ⌝ }
