@@ -47,7 +47,7 @@ impl Function {
     }
 
     /// The byte that stands for this kind.
-    fn byte(self) -> u8 {
+    pub fn byte(self) -> u8 {
         match self {
             Function::Request => REQUEST,
             Function::Reply => REPLY,
@@ -126,7 +126,7 @@ pub fn is_address(entry: u8) -> bool {
 }
 
 /// The entries of a block that name somebody, in order.
-fn named(block: &[u8]) -> Vec<u8> {
+pub fn named(block: &[u8]) -> Vec<u8> {
     block.iter().copied().filter(|&e| e != NOBODY).collect()
 }
 

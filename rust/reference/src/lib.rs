@@ -1,12 +1,15 @@
-//! A second, independent implementation of the 3964R link and of a station that takes,
-//! relays and answers MoP telegrams, to be compared with the proved one by running both.
-//! It prefers being easy to check over being fast.
+//! A second, independent implementation of the 3964R link, of a station that takes, relays
+//! and answers MoP telegrams, and of a dry run through a net of such stations, to be
+//! compared with the proved one by running both. It prefers being easy to check over being
+//! fast.
 
 #![forbid(unsafe_code)]
 #![warn(missing_docs)]
 
 pub mod header;
 pub mod link;
+pub mod net;
 pub mod refusal;
 pub mod registers;
+pub mod report;
 pub mod station;

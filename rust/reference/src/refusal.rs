@@ -1,7 +1,10 @@
 //! The numbers that refused calls give back.
 
-/// The call is set up wrongly: a link state against its buffer, an own address or a table
-/// of registers that cannot be.
+/// One of the numbers below.
+pub type Refusal = u8;
+
+/// The call is set up wrongly: a link state against its buffer, or an own address, a table
+/// of registers or a net that cannot be.
 pub const BAD_SETUP: u8 = 1;
 /// The telegram ends within its header.
 pub const HEADER_CUT_SHORT: u8 = 2;
