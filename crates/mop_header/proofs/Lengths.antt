@@ -1,13 +1,18 @@
 -- The lengths of headers.
 -- Assumes nothing.
-use mathlib.Core.Path.{_≡_, refl}
+use mathlib.Core.Path.{_≡_, refl, _∙_}
+use mathlib.Core.Bool.{true, and-eq-true-iff}
 use mathlib.Core.List.{List}
-use Prim.Native.Nat.{ℕ, _+_}
+use Prim.Native.Nat.{ℕ, _+_, _≤_}
 use native.Mathlib.Omega.{arith}
+use borrow.Author.Tests.{leb-true, eqb-true}
+use lib.Dec.{leb}
 use lib.ListN.{length}
 use Rattle.mop_block.specs.Block.{first, rollLeft, rollRight}
 use Rattle.mop_block.proofs.Rolls.{length-left, length-right}
-use Rattle.mop_header.specs.Header.{Head, addressBytes, headerBytes, headerLength, markByte, withMark, remarked, rolledLeft, rolledRight}
+use Rattle.mop_header.specs.Header.{Head, addressBytes, headerBytes, headerLength, markByte, withMark, remarked, rolledLeft, rolledRight, asReply, sentBack}
+use Rattle.mop_header.specs.ReadBack.{sized, InOrder}
+use Rattle.mop_header.specs.declared.Reader.{Reader}
 use Rattle.mop_header.specs.declared.Form.{Form}
 use Rattle.mop_header.specs.declared.Form.the-variants.{Standard, Extended}
 
@@ -43,3 +48,36 @@ module _ (h : Head) where
   pub length-rolled-right : headerLength (rolledRight h) ≡ headerLength h
   unfolding headerLength headerBytes rolledRight
   length-rolled-right = rw (length-address (h .form) (rollRight (h .block)) (h .block) (length-right (h .block)))
+
+  pub length-as-reply : headerLength (asReply h) ≡ headerLength h
+  unfolding asReply headerLength headerBytes
+  length-as-reply = refl
+
+pub length-sent-back : (h : Head) → headerLength (sentBack h) ≡ headerLength h
+unfolding sentBack
+length-sent-back h = length-remarked (rolledRight h) ∙ length-rolled-right h
+
+-- the bytes of a header with a block of so many entries
+abbrev pub headerRoom : Form → ℕ → ℕ
+headerRoom Standard n = n + 2
+headerRoom (Extended m) n = n + 7
+
+room-by : (h : Head) (form : Form) → h .form ≡ form → headerLength h ≡ headerRoom form (length (h .block))
+room-by h Standard e = length-standard h e
+room-by h (Extended m) e = length-extended h e
+
+pub length-header : (h : Head) → headerLength h ≡ headerRoom (h .form) (length (h .block))
+length-header h = room-by h (h .form) refl
+
+-- a block has at most 32 entries, and so a header in order at most 39 bytes
+pub sized-most : (form : Form) (n : ℕ) → sized form n ≡ true → n ≤ 32
+unfolding sized
+sized-most Standard n s = omega (arith, eqb-true n 4 s)
+sized-most (Extended m) n s = leb-true n 32 (and-eq-true-iff (leb 2 n) (leb n 32) .0 s .1)
+
+room-most : (form : Form) (n : ℕ) → n ≤ 32 → headerRoom form n ≤ 39
+room-most Standard n s = omega arith
+room-most (Extended m) n s = omega arith
+
+pub header-bound : (who : Reader) (h : Head) → InOrder who h → headerLength h ≤ 39
+header-bound who h o = rw (length-header h) (room-most (h .form) (length (h .block)) (sized-most (h .form) (length (h .block)) (o .size)))

@@ -112,3 +112,9 @@ module _ (h : Head) where
   pub remarked-block : remarked h .block ≡ h .block
   unfolding remarked
   remarked-block = refl
+
+-- of two marks the last one stays
+pub marked-twice : (form : Form) (k l : ℕ) → withMark (withMark form k) l ≡ withMark form l
+unfolding withMark
+marked-twice Standard k l = refl
+marked-twice (Extended m) k l = refl

@@ -12,18 +12,31 @@ use Rattle.base.proofs.Filling.{fitted-short, fitted-room}
 use Rattle.base.proofs.Words.{length-words, length-bytes}
 use Rattle.registers.specs.Rows.{placeOf, tableLength}
 use Rattle.registers.specs.Runs.{runExists, reads}
-use Rattle.registers.proofs.Runs.{run-room, length-reads, reads-run, writes-run}
-use Rattle.mop_header.specs.Header.{Head, headerLength, telegramOf}
+use Rattle.registers.proofs.Runs.{run-room, run-bound, length-reads, reads-run, length-writes, writes-run}
+use Rattle.mop_header.specs.Header.{Head, headerLength, telegramOf, asReply}
+use Rattle.mop_header.proofs.Lengths.{length-sent-back, length-as-reply}
 use Rattle.mop_header.proofs.Writing.{length-telegram}
-use Rattle.mop_station.specs.Body.{accepts, readStart, readCount, writeStart, writeCount, valuesOf, afterWrites, replyWith, replyBody}
+use Rattle.mop_station.specs.Body.{accepts, readStart, readCount, writeStart, writeCount, valuesOf, judgedBody, afterWrites, replyWith, replyBody}
 use Rattle.mop_station.specs.Station.{sending, keptBy, leaving, refuses, replied, answering}
-use Rattle.mop_station.proofs.Bodies.{Accepted}
+use Rattle.mop_station.proofs.Bodies.{Accepted, accepted}
 
 pub length-reply : (body table : List ℕ) → length (replyBody body table) ≡ 3 + 2 * readCount body
 unfolding replyBody replyWith
 length-reply body table =
     let values = reads table (readStart body) (readCount body) in
     omega (arith, length-bytes values, length-reads table (readStart body) (readCount body))
+
+-- the lengths of what a destination leaves and sends
+pub length-after : (body t : List ℕ) → length (afterWrites body t) ≡ length t
+unfolding afterWrites
+length-after body t = length-writes t (writeStart body) (valuesOf body)
+
+pub reply-bound : (body t : List ℕ) → judgedBody body ≡ accepts → length (replyBody body t) ≤ 19
+reply-bound body t e = omega (arith, length-reply body t, run-bound (readStart body) (readCount body) (accepted body e .readable))
+
+pub length-replied : (h : Head) → headerLength (replied h) ≡ headerLength h
+unfolding replied
+length-replied h = length-sent-back (asReply h) ∙ length-as-reply h
 
 -- where there is room, the registers are as after the writes
 sent-kept : (telegram after t out : List ℕ) → length telegram ≤ length out →

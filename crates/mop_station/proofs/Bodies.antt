@@ -6,9 +6,10 @@ use mathlib.Core.List.{List, [], _∷_}
 use Prim.Native.Nat.{ℕ, _+_, _*_, _<_}
 use native.Mathlib.Omega.{arith}
 use borrow.Author.Tests.{eq-eqb, ne-eqb, eqb-true}
-use lib.Dec.{eqb}
+use lib.Dec.{eqb, leb}
 use lib.ListN.{length}
 use Rattle.base.specs.Choice.{pick}
+use Rattle.base.proofs.Choice.{pick-either}
 use Rattle.registers.specs.Runs.{runExists, runMayWrite, runTakes}
 use Rattle.mop_station.specs.Body.{Acceptance, accepts, rejects, readStart, readCount, writeStart, writeCount, valuesOf, judgedRuns, judgedBody}
 
@@ -90,3 +91,26 @@ accepted body e =
       writable = nine .0;
       inRange = ten .0;
     }
+
+-- a body is rejected with 7 to 10
+abbrev numbered : ℕ → Bool
+numbered k = leb 7 k && leb k 10
+
+abbrev Numbered : Acceptance → Type 0
+Numbered v = (k : ℕ) → v ≡ rejects k → numbered k ≡ true
+
+rejects-number : (n : ℕ) → numbered n ≡ true → Numbered (rejects n)
+rejects-number n t k e = let same : n ≡ k = cc in rw (← same) t
+
+accepts-none : Numbered accepts
+accepts-none k e = let z : _≡_ {A = ℕ} 0 1 = cc in absurd (omega arith)
+
+pub rejected-number : (body : List ℕ) (k : ℕ) → judgedBody body ≡ rejects k → (leb 7 k && leb k 10) ≡ true
+unfolding judgedBody judgedRuns
+rejected-number body =
+    let start = writeStart body in
+    let count = writeCount body in
+    pick-either Numbered (not (eqb (length body) (6 + 2 * count))) (rejects-number 7 refl)
+    (pick-either Numbered (not (runExists (readStart body) (readCount body) && runExists start count)) (rejects-number 8 refl)
+    (pick-either Numbered (not (runMayWrite start count)) (rejects-number 9 refl)
+    (pick-either Numbered (not (runTakes start (valuesOf body))) (rejects-number 10 refl) accepts-none)))
