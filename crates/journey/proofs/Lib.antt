@@ -1,0 +1,15 @@
+pub mod Net
+pub mod Calls
+pub mod Ring
+pub mod Outputs
+pub mod Unique
+pub mod Bounded
+pub mod Telegrams
+pub mod Steps
+pub mod Positions
+pub mod Homeward
+pub mod Passage
+pub mod Courses
+pub mod Start
+pub mod Fresh
+pub mod Whole

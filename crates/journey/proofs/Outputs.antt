@@ -1,0 +1,110 @@
+-- Every call gives the same with any output that is long enough.
+-- Assumes nothing.
+use mathlib.Core.Path.{_≡_, refl, sym, _∙_, subst}
+use mathlib.Core.Bool.{Bool, true, false}
+use mathlib.Core.List.{List}
+use Prim.Native.Nat.{ℕ, zero, suc, _≤_}
+use native.Mathlib.Omega.{arith}
+use borrow.Author.Tests.{eqb-true, eqb-false}
+use lib.Dec.{eqb}
+use lib.ListN.{length, take}
+use Rattle.base.specs.Places.{placed}
+use Rattle.base.proofs.Places.{take-placed}
+use Rattle.registers.specs.Rows.{tableLength}
+use Rattle.mop_block.specs.Block.{isAddress, first, next}
+use Rattle.mop_header.specs.Header.{Head, telegramOf, bodyOf, rolledLeft, sentBack}
+use Rattle.mop_header.specs.Reading.{Finding, fine, fault, sound, reading}
+use Rattle.mop_header.specs.declared.Function.{Function}
+use Rattle.mop_header.specs.declared.Function.the-variants.{Request, Reply}
+use Rattle.mop_header.specs.declared.Reader.the-variants.{Station}
+use Rattle.mop_station.specs.Body.{Acceptance, accepts, rejects, judgedBody, afterWrites, replyBody}
+use Rattle.mop_station.specs.Station.{Handled, sent, notMine, refuses, Handling, leaving, replied, handling}
+use Rattle.mop_station.proofs.Telegrams.{for-another, bad-address, bad-table, set-up}
+use Rattle.journey.specs.Journey.{callOutput}
+use Rattle.journey.proofs.Calls.{call-fault, call-reply, call-request, call-accepted, call-rejected}
+
+-- two calls that give the same: the bytes sent are the first places of the output
+pub record SameCall (x y : Handling) : Type 0 where
+  pub handled : x .handled ≡ y .handled
+  pub registers : x .registers ≡ y .registers
+  pub bytes : (n : ℕ) → x .handled ≡ sent n → take n (x .output) ≡ take n (y .output)
+
+-- what is given that is no telegram
+abbrev Silent : Handled → Type 0
+Silent v = (n : ℕ) → v ≡ sent n → ⊥
+
+refuses-silent : (k : ℕ) → Silent (refuses k)
+refuses-silent k n e = let z : _≡_ {A = ℕ} 0 1 = cc in omega arith
+
+not-mine-silent : Silent notMine
+not-mine-silent n e = let z : _≡_ {A = ℕ} 0 1 = cc in omega arith
+
+sent-once : (m n : ℕ) → sent m ≡ sent n → m ≡ n
+sent-once m n e = cc
+
+-- the two things that a call comes to, whatever the output
+data Call (own : ℕ) (t tg : List ℕ) : Type 0 where
+  silent : (v : Handled) → Silent v → ((out : List ℕ) → callOutput ≤ length out → handling own t tg out ≡ leaving v t out) → Call own t tg
+  sending : (x after : List ℕ) →
+      ((out : List ℕ) → callOutput ≤ length out → handling own t tg out ≡ leaving (sent (length x)) after (placed x out)) → Call own t tg
+
+module _ (own : ℕ) (t tg : List ℕ) where
+  module _ (address : isAddress own ≡ true) (long : length t ≡ tableLength) where
+    module _ (h : Head) (order : reading Station tg ≡ sound h) where
+      module _ (mine : first (h .block) ≡ own) where
+        by-verdict : h .function ≡ Request → next (h .block) ≡ 0 → (v : Acceptance) → judgedBody (bodyOf h tg) ≡ v → Call own t tg
+        by-verdict request last accepts e =
+            let after = afterWrites (bodyOf h tg) t in
+            sending (telegramOf (replied h) (replyBody (bodyOf h tg) after)) after
+            (λ out room. call-accepted own t tg out h order address long mine room request last e)
+        by-verdict request last (rejects k) e =
+            silent (refuses k) (refuses-silent k) (λ out room. call-rejected own t tg out h order address long mine room request last k e)
+
+        by-next : h .function ≡ Request → (n : ℕ) → next (h .block) ≡ n → Call own t tg
+        by-next request zero e = by-verdict request e (judgedBody (bodyOf h tg)) refl
+        by-next request (suc n) e =
+            sending (telegramOf (rolledLeft h) (bodyOf h tg)) t
+            (λ out room. call-request own t tg out h order address long mine room request (λ z. not-zero n (sym e ∙ z)))
+          where
+            not-zero : (n : ℕ) → suc n ≡ 0 → ⊥
+            not-zero n z = omega arith
+
+        by-function : (f : Function) → h .function ≡ f → Call own t tg
+        by-function Request e = by-next e (next (h .block)) refl
+        by-function Reply e =
+            sending (telegramOf (sentBack h) (bodyOf h tg)) t (λ out room. call-reply own t tg out h order address long mine room e)
+
+      by-first : (c : Bool) → eqb (first (h .block)) own ≡ c → Call own t tg
+      by-first true e = by-function (eqb-true (first (h .block)) own e) (h .function) refl
+      by-first false e =
+          silent notMine not-mine-silent
+          (λ out room. set-up own t tg out address long (sym order) ∙ for-another own h tg t out (eqb-false (first (h .block)) own e))
+
+    by-finding : (v : Finding) (h : Head) → reading Station tg ≡ record { finding = v; header = h } → Call own t tg
+    by-finding (fault k) h e = silent (refuses k) (refuses-silent k) (λ out room. call-fault own t tg out k (rw e) address long)
+    by-finding fine h e = by-first h e (eqb (first (h .block)) own) refl
+
+  by-table : isAddress own ≡ true → (c : Bool) → eqb (length t) tableLength ≡ c → Call own t tg
+  by-table address true e = by-finding address (eqb-true (length t) tableLength e) (reading Station tg .finding) (reading Station tg .header) refl
+  by-table address false e = silent (refuses 1) (refuses-silent 1) (λ out room. bad-table own t tg out (eqb-false (length t) tableLength e))
+
+  by-address : (c : Bool) → isAddress own ≡ c → Call own t tg
+  by-address true e = by-table e (eqb (length t) tableLength) refl
+  by-address false e = silent (refuses 1) (refuses-silent 1) (λ out room. bad-address own t tg out e)
+
+-- the bytes placed are the same in both outputs
+taken-same : (x out out₂ : List ℕ) (n : ℕ) → length x ≡ n → take n (placed x out) ≡ take n (placed x out₂)
+taken-same x out out₂ n e =
+    subst (λ (m : ℕ). take m (placed x out) ≡ take m (placed x out₂)) e (take-placed x out ∙ sym (take-placed x out₂))
+
+same-by : (own : ℕ) (t tg out out₂ : List ℕ) → callOutput ≤ length out → callOutput ≤ length out₂ → Call own t tg →
+    SameCall (handling own t tg out) (handling own t tg out₂)
+same-by own t tg out out₂ room room₂ (silent v s e) =
+    rw (e out room, e out₂ room₂) (record { handled = refl; registers = refl; bytes = λ n g. absurd (s n g) })
+same-by own t tg out out₂ room room₂ (sending x after e) =
+    rw (e out room, e out₂ room₂)
+    (record { handled = refl; registers = refl; bytes = λ n g. taken-same x out out₂ n (sent-once (length x) n g) })
+
+pub any-output : (a : ℕ) (t tg out out₂ : List ℕ) → callOutput ≤ length out → callOutput ≤ length out₂ →
+    SameCall (handling a t tg out) (handling a t tg out₂)
+any-output a t tg out out₂ room room₂ = same-by a t tg out out₂ room room₂ (by-address a t tg (isAddress a) refl)

@@ -1,0 +1,111 @@
+-- Demand 3 of every journey, byte for byte, and the bound on its transmissions.
+-- Assumes nothing.
+use mathlib.Core.Path.{_≡_, refl, sym, _∙_, ap, subst}
+use mathlib.Core.Logic.{_⊎_, inl, inr}
+use mathlib.Core.Bool.{true, false}
+use mathlib.Core.List.{List}
+use Prim.Native.Nat.{ℕ, zero, suc, _*_, _≤_, _<_}
+use native.Mathlib.Omega.{arith}
+use lib.ListN.{length, replicate}
+use Rattle.mop_block.specs.Block.{first}
+use Rattle.mop_block.proofs.Stations.{named-bound}
+use Rattle.mop_header.specs.Header.{Head, bodyOf}
+use Rattle.mop_header.specs.Reading.{Finding, fine, fault, sound, goodFor, reading}
+use Rattle.mop_header.specs.declared.Reader.the-variants.{Station}
+use Rattle.mop_header.proofs.Lengths.{sized-most}
+use Rattle.mop_header.proofs.ReadBack.{is-written}
+use Rattle.journey.specs.Net.{Net, goodNet, isThere, tableAt, withTable}
+use Rattle.journey.specs.Journey.{Ending, atNobody, Course, unheard, callOutput, Journey}
+use Rattle.journey.specs.Demand3.{m, beforeZeros, Demand3, TheJourney, EveryJourney}
+use Rattle.journey.specs.Transmissions.{ByteForByte}
+use Rattle.journey.specs.Bounded.{mostTransmissions, PlaysTheJourney}
+use Rattle.journey.proofs.Net.{table-other}
+use Rattle.journey.proofs.Calls.{call-fault}
+use Rattle.journey.proofs.Ring.{none-named, some-named}
+use Rattle.journey.proofs.Unique.{unique}
+use Rattle.journey.proofs.Bounded.{plays}
+use Rattle.journey.proofs.Steps.{ends-faulty, ends-zero, ends-nobody}
+use Rattle.journey.proofs.Courses.{stations-stay, last-refused}
+use Rattle.journey.proofs.Start.{Ran, Start, start}
+use Rattle.journey.proofs.Fresh.{fulfilled, in-bytes}
+
+-- a first entry that is an address, but nobody's
+nobody-first : (net : Net) (tg : List ℕ) (h : Head) → reading Station tg ≡ sound h →
+    (a : ℕ) → first (h .block) ≡ a → (a ≡ 0 → ⊥) → isThere a net ≡ false → Journey net tg (unheard tg net atNobody)
+nobody-first net tg h order zero e n none = absurd (n refl)
+nobody-first net tg h order (suc p) e n none = ends-nobody net tg h order p e none
+
+-- where one table at most changed, the others are as before
+other-kept : (net after : Net) (a d : ℕ) → (after ≡ net) ⊎ ((t : List ℕ) × (after ≡ withTable d t net)) → (a ≡ d → ⊥) → tableAt a after ≡ tableAt a net
+other-kept net after a d (inl e) n = ap (tableAt a) e
+other-kept net after a d (inr x) n = ap (tableAt a) (x .1) ∙ table-other d a (x .0) net n
+
+reading-fine : (tg : List ℕ) → reading Station tg .finding ≡ fine → reading Station tg ≡ sound (reading Station tg .header)
+reading-fine tg e = λ i. record { finding = e i; header = reading Station tg .header }
+
+-- whatever journey it is
+module _ (net : Net) (tg : List ℕ) (fit : goodNet net ≡ true) where
+  started : (h : Head) → reading Station tg ≡ sound h → Start net tg h (bodyOf h tg)
+  started h order = start (replicate callOutput 0) (omega arith) net fit tg h order
+
+  ran : {c : Course} → Journey net tg c → (h : Head) → reading Station tg ≡ sound h → Ran net h (bodyOf h tg) c
+  ran j h order = let s = started h order in subst (Ran net h (bodyOf h tg)) (unique (s .journey) j) (s .ran)
+
+  demand3 : {c : Course} → Journey net tg c → Demand3 net tg c
+  demand3 {c} j = record {
+    fault-refused = λ k e own t out address long. call-fault own t tg out k e address long;
+    fault-ends = λ k e. unique j (ends-faulty net tg k e);
+    none-named = λ h order e. unique j (ends-zero net tg h order (none-named (h .block) e));
+    zero-first = λ h order e. unique j (ends-zero net tg h order e);
+    nobodys-first = λ h order n none. unique j (nobody-first net tg h order (first (h .block)) refl n none);
+    at-most = λ h order some. ran j h order .most some;
+    refused-last = λ earlier later k e. last-refused later k j earlier e;
+    accomplished = λ h order fresh all verdict.
+        fulfilled net h (bodyOf h tg) c (ran j h order .fresh fresh all verdict) fit (some-named (h .block) (fresh .first-named)) all verdict;
+    others-kept = λ h order a n. other-kept net (c .after) a (beforeZeros (h .block)) (ran j h order .changes) n;
+    same-stations = stations-stay j;
+    all-ordinary = λ h order. ran j h order .plain;
+  }
+
+  given : {c : Course} → Journey net tg c → TheJourney net tg
+  given {c} j = record { course = c; journey = j; only = λ d k. unique k j; demand3 = demand3 j }
+
+  -- by what reading says
+  by-finding : (v : Finding) → reading Station tg .finding ≡ v → TheJourney net tg
+  by-finding (fault k) e = given (ends-faulty net tg k e)
+  by-finding fine e = given (started (reading Station tg .header) (reading-fine tg e) .journey)
+
+pub every-journey : EveryJourney
+every-journey net tg fit = by-finding net tg fit (reading Station tg .finding) refl
+
+pub byte-for-byte : ByteForByte
+byte-for-byte net tg c fit j h order fresh all verdict =
+    in-bytes net h (bodyOf h tg) c (ran net tg fit j h order .fresh fresh all verdict) (fresh .request) (is-written Station tg h order .order .mark)
+
+-- the bound
+sixty-two : (x n k : ℕ) → x ≤ 2 * n → n < k → k ≤ 32 → x ≤ mostTransmissions
+sixty-two x n k a b c = omega arith
+
+one-transmission : {c : Course} (tg : List ℕ) (net : Net) {e : Ending} → c ≡ unheard tg net e → length (c .transmissions) ≤ mostTransmissions
+one-transmission tg net e = rw e (omega arith)
+
+module _ (net : Net) (tg : List ℕ) (c : Course) (d : Demand3 net tg c) where
+  named-most : (h : Head) → reading Station tg ≡ sound h → (n : ℕ) → m h ≡ n → length (c .transmissions) ≤ mostTransmissions
+  unfolding goodFor
+  named-most h order zero e = one-transmission tg net (d .none-named h order e)
+  named-most h order (suc n) e =
+      let well = is-written Station tg h order in
+      sixty-two (length (c .transmissions)) (m h) (length (h .block)) (d .at-most h order (rw e (omega arith)))
+      (named-bound (h .block) (well .order .block)) (sized-most (h .form) (length (h .block)) (well .order .size))
+
+  most-by : (v : Finding) → reading Station tg .finding ≡ v → length (c .transmissions) ≤ mostTransmissions
+  most-by (fault k) e = one-transmission tg net (d .fault-ends k e)
+  most-by fine e = let h = reading Station tg .header in named-most h (reading-fine tg e) (m h) refl
+
+pub at-most-62 : (net : Net) (tg : List ℕ) (c : Course) → goodNet net ≡ true → Journey net tg c → length (c .transmissions) ≤ mostTransmissions
+at-most-62 net tg c fit j = most-by net tg c (demand3 net tg fit j) (reading Station tg .finding) refl
+
+pub plays-the-journey : PlaysTheJourney
+plays-the-journey net tg fit =
+    let t = every-journey net tg fit in
+    subst (Journey net tg) (sym (plays mostTransmissions (t .journey) (at-most-62 net tg (t .course) fit (t .journey)))) (t .journey)

@@ -1,0 +1,5 @@
+pub mod Net
+pub mod Journey
+pub mod Demand3
+pub mod Transmissions
+pub mod Bounded

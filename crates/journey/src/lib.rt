@@ -1,0 +1,1 @@
+// The journey of a telegram over a net of stations. No code.
