@@ -16,11 +16,11 @@ use Rattle.mop_header.specs.declared.Form.{Form}
 use Rattle.mop_header.specs.declared.Function.the-variants.{Reply}
 use Rattle.mop_header.proofs.Lengths.{headerRoom}
 use Rattle.journey.specs.Net.{Net, goodNet, isThere, allThere}
-use Rattle.journey.specs.Journey.{atZero, atNobody, Course, unheard, onward, callOutput, Journey}
-use Rattle.journey.specs.Demand3.{Heard, hears, heard, allOrdinary}
+use Rattle.journey.specs.Journey.{Ending, atZero, atNobody, refusedWith, Course, unheard, onward, callOutput, Journey}
+use Rattle.journey.specs.Demand3.{Heard, hears, heard, allOrdinary, allFine}
 use Rattle.journey.specs.Transmissions.{homeward}
 use Rattle.journey.proofs.Net.{there-parts, not-there}
-use Rattle.journey.proofs.Telegrams.{telegramFor, Faultless, reads-well, heard-as, first-is}
+use Rattle.journey.proofs.Telegrams.{telegramFor, Faultless, reads-well, still-fine, heard-as, first-is}
 use Rattle.journey.proofs.Steps.{ends-zero, stop-nobody, hop-reply}
 use Rattle.journey.proofs.Positions.{first-ahead, first-returned, same-ring, moved-back, faultless-at, faultless-home}
 
@@ -30,13 +30,25 @@ pub record Homecoming (c : ℕ) (form : Form) (b body back : List ℕ) (d : Cour
   pub telegrams : d .transmissions ≡ map (λ (e : List ℕ). telegramFor Reply c form e body) (b ∷ homeward (length back) b)
   pub ending : d .ending ≡ atZero
 
+-- an ending that is no refusal
+abbrev pub Unrefused : Ending → Type 0
+Unrefused e = (k : ℕ) → e ≡ refusedWith k → ⊥
+
+pub zero-unrefused : Unrefused atZero
+zero-unrefused k e = let x : _≡_ {A = ℕ} 0 1 = cc in omega arith
+
+pub nobody-unrefused : Unrefused atNobody
+nobody-unrefused k e = let x : _≡_ {A = ℕ} 0 1 = cc in omega arith
+
 -- a reply's journey home; `back` has the stations passed, the last one first
 pub record Home (net : Net) (c : ℕ) (form : Form) (b body back : List ℕ) : Type 0 where
   pub course : Course
   pub journey : Journey net (telegramFor Reply c form b body) course
   pub most : length (course .transmissions) ≤ suc (length back)
   pub kept : course .after ≡ net
+  pub fine : allFine (course .transmissions) ≡ true
   pub plain : allOrdinary (course .answers) ≡ true
+  pub taken : Unrefused (course .ending)
   pub whole : allThere back net ≡ true → Homecoming c form b body back course
 
 pub one-more : {A : Type 0} {x y : A} {xs ys : List A} → x ≡ y → xs ≡ ys → x ∷ xs ≡ y ∷ ys
@@ -67,7 +79,9 @@ module _ (out : List ℕ) (room : callOutput ≤ length out) (c : ℕ) (form : F
         journey = ends-zero net tg (remarked (head Reply c form b)) (reads-well Reply c w) (first-is Reply c w zero-first);
         most = most-alone 0;
         kept = refl;
+        fine = still-fine Reply c w [] refl;
         plain = refl;
+        taken = zero-unrefused;
         whole = λ all. record {
           passage = ap (λ (x : Heard). x ∷ []) (heard-as Reply c w zero-first);
           telegrams = refl;
@@ -85,7 +99,9 @@ module _ (out : List ℕ) (room : callOutput ≤ length out) (c : ℕ) (form : F
         journey = stop-nobody net w s (first-ahead s ahead z (reverse back)) e Reply c;
         most = most-alone (suc (length back));
         kept = refl;
+        fine = still-fine Reply c w [] refl;
         plain = refl;
+        taken = nobody-unrefused;
         whole = λ all. absurd (not-there (suc s) back net e all);
       }
   home-by s ahead back w r true e =
@@ -97,7 +113,9 @@ module _ (out : List ℕ) (room : callOutput ≤ length out) (c : ℕ) (form : F
         journey = hop-reply out room net fit w s mine e c (r .course) (r .journey);
         most = most-on (length (r .course .transmissions)) (length back) (r .most);
         kept = r .kept;
+        fine = still-fine Reply c w (r .course .transmissions) (r .fine);
         plain = r .plain;
+        taken = r .taken;
         whole = λ all.
             let x = r .whole (there-parts (suc s) back net all .1) in
             record {

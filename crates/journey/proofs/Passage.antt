@@ -19,12 +19,12 @@ use Rattle.mop_header.proofs.Lengths.{headerRoom}
 use Rattle.mop_station.proofs.Bodies.{rejected-number}
 use Rattle.mop_station.proofs.Answers.{length-after, reply-bound}
 use Rattle.journey.specs.Net.{Net, goodNet, isThere, allThere, tableAt, withTable}
-use Rattle.journey.specs.Journey.{atZero, atNobody, Course, unheard, refusal, onward, callOutput, Journey}
-use Rattle.journey.specs.Demand3.{hears, heard, allOrdinary}
+use Rattle.journey.specs.Journey.{atZero, atNobody, refusedWith, Course, unheard, refusal, onward, callOutput, Journey}
+use Rattle.journey.specs.Demand3.{hears, heard, allOrdinary, allFine}
 use Rattle.journey.specs.Transmissions.{outward, relayedBlock, homeward}
 use Rattle.journey.proofs.Net.{table-same, all-there-with, good-with, good-table, there-parts, there-both, not-there}
 use Rattle.journey.proofs.Ring.{lastOf}
-use Rattle.journey.proofs.Telegrams.{telegramFor, Faultless, heard-as, reply-short}
+use Rattle.journey.proofs.Telegrams.{telegramFor, Faultless, still-fine, heard-as, reply-short}
 use Rattle.journey.proofs.Steps.{stop-nobody, hop-request, hop-accepted, stop-rejected}
 use Rattle.journey.proofs.Positions.{first-ahead, next-ahead, next-zero, same-ring, moved-on}
 use Rattle.journey.proofs.Positions.{length-spread, faultless-at}
@@ -52,7 +52,9 @@ pub record Out (net : Net) (c : ℕ) (form : Form) (b body ahead back : List ℕ
   pub journey : Journey net (telegramFor Request c form b body) course
   pub most : length (course .transmissions) ≤ 2 * length ahead + length back
   pub changes : (course .after ≡ net) ⊎ ((t : List ℕ) × (course .after ≡ withTable (lastOf ahead) t net))
+  pub fine : allFine (course .transmissions) ≡ true
   pub plain : allOrdinary (course .answers) ≡ true
+  pub refused-keeps : (k : ℕ) → course .ending ≡ refusedWith k → course .after ≡ net
   pub whole : allThere ahead net ≡ true → allThere back net ≡ true → judgedBody body ≡ accepts → Fulfilled net c form b body ahead back course
 
 -- the counts
@@ -82,7 +84,9 @@ module _ (out : List ℕ) (room : callOutput ≤ length out) (form : Form) (z : 
     journey = stop-nobody net w p (first-ahead p ahead z (reverse back)) e Request c;
     most = most-alone (length ahead) (length back);
     changes = inl refl;
+    fine = still-fine Request c w [] refl;
     plain = refl;
+    refused-keeps = λ k e. refl;
     whole = λ all passed verdict. absurd (not-there (suc p) ahead net e all);
   }
 
@@ -98,7 +102,9 @@ module _ (out : List ℕ) (room : callOutput ≤ length out) (form : Form) (z : 
       journey = stop-rejected out room net fit w p mine there c k (next-zero (suc p) z (reverse back)) verdict;
       most = most-alone 0 (length back);
       changes = inl refl;
+      fine = still-fine Request c w [] refl;
       plain = rw (rejected-number body k verdict);
+      refused-keeps = λ k e. refl;
       whole = λ all passed taken. absurd (rejects-accepts verdict taken);
     }
 
@@ -121,7 +127,9 @@ module _ (out : List ℕ) (room : callOutput ≤ length out) (form : Form) (z : 
           journey = hop-accepted out room net fit w p mine there c (next-zero (suc p) z (reverse back)) verdict (r .course) (r .journey);
           most = most-end (length (r .course .transmissions)) (length back) (r .most);
           changes = inr (t, r .kept);
+          fine = still-fine Request c w (r .course .transmissions) (r .fine);
           plain = r .plain;
+          refused-keeps = λ k e. absurd (r .taken k e);
           whole = λ all passed taken.
               let x = r .whole (all-there-with back (suc p) t net ∙ passed) in
               record {
@@ -154,7 +162,9 @@ module _ (out : List ℕ) (room : callOutput ≤ length out) (form : Form) (z : 
         journey = hop-request out room net fit w p mine there c (next-ahead q ahead z (reverse back) (suc p)) (r .course) (r .journey);
         most = most-on (length (r .course .transmissions)) (length ahead) (length back) (r .most);
         changes = r .changes;
+        fine = still-fine Request c w (r .course .transmissions) (r .fine);
         plain = r .plain;
+        refused-keeps = r .refused-keeps;
         whole = λ all passed verdict.
             let parts = there-parts (suc p) (suc q ∷ ahead) net all in
             let x = r .whole (parts .1) (there-both (suc p) back net (parts .0) passed) verdict in

@@ -21,10 +21,10 @@ use Rattle.mop_header.proofs.Marks.{agrees-remarked}
 use Rattle.mop_header.proofs.ReadBack.{is-written}
 use Rattle.mop_station.specs.Body.{accepts, judgedBody}
 use Rattle.journey.specs.Net.{Net, goodNet, isThere, allThere, withTable}
-use Rattle.journey.specs.Journey.{Ending, atZero, atNobody, Course, unheard, onward, callOutput, Journey}
-use Rattle.journey.specs.Demand3.{m, Fresh, beforeZeros, allOrdinary}
+use Rattle.journey.specs.Journey.{Ending, atZero, atNobody, refusedWith, Course, unheard, onward, callOutput, Journey}
+use Rattle.journey.specs.Demand3.{m, Fresh, beforeZeros, allOrdinary, allFine}
 use Rattle.journey.proofs.Ring.{last-at, before-zeros, none-passed}
-use Rattle.journey.proofs.Telegrams.{telegramFor, length-read, Faultless, reads-well, first-is}
+use Rattle.journey.proofs.Telegrams.{telegramFor, length-read, Faultless, reads-well, still-fine, first-is}
 use Rattle.journey.proofs.Steps.{ends-zero, stop-nobody, hop-reply}
 use Rattle.journey.proofs.Positions.{first-ahead, length-spread}
 use Rattle.journey.proofs.Homeward.{home}
@@ -34,7 +34,9 @@ use Rattle.journey.proofs.Passage.{Fulfilled, Out, requested}
 pub record Ran (net : Net) (h : Head) (body : List ℕ) (d : Course) : Type 0 where
   pub most : 1 ≤ m h → length (d .transmissions) ≤ 2 * m h
   pub changes : (d .after ≡ net) ⊎ ((t : List ℕ) × (d .after ≡ withTable (beforeZeros (h .block)) t net))
+  pub fine : allFine (d .transmissions) ≡ true
   pub plain : allOrdinary (d .answers) ≡ true
+  pub refused-keeps : (k : ℕ) → d .ending ≡ refusedWith k → d .after ≡ net
   pub fresh : Fresh h → allThere (stations (h .block)) net ≡ true → judgedBody body ≡ accepts →
       Fulfilled net (h .control) (h .form) (h .block) body (stations (h .block)) [] d
 
@@ -73,11 +75,13 @@ suc-zero : {n : ℕ} → suc n ≡ 0 → ⊥
 suc-zero e = omega arith
 
 -- one transmission that no station hears
-ran-alone : (net : Net) (h : Head) (body tg : List ℕ) (e : Ending) → (Fresh h → ⊥) → Ran net h body (unheard tg net e)
-ran-alone net h body tg e stale = record {
+ran-alone : (net : Net) (h : Head) (body tg : List ℕ) (e : Ending) → allFine (tg ∷ []) ≡ true → (Fresh h → ⊥) → Ran net h body (unheard tg net e)
+ran-alone net h body tg e well stale = record {
   most = λ some. most-alone (m h) some;
   changes = inl refl;
+  fine = well;
   plain = refl;
+  refused-keeps = λ k refusal. refl;
   fresh = λ fresh. absurd (stale fresh);
 }
 
@@ -106,7 +110,7 @@ module _ (out : List ℕ) (room : callOutput ≤ length out) (net : Net) (fit : 
         record {
           course = unheard tg net atNobody;
           journey = stop-nobody net w p (first-ahead p ahead z (reverse back)) e Reply c;
-          ran = ran-alone net (head Reply c form b) body tg atNobody (λ fresh. reply-request (fresh .request));
+          ran = ran-alone net (head Reply c form b) body tg atNobody (still-fine Reply c w [] refl) (λ fresh. reply-request (fresh .request));
         }
     reply-start true e =
         let b = spread (suc p ∷ ahead) z (reverse back) in
@@ -121,7 +125,9 @@ module _ (out : List ℕ) (room : callOutput ≤ length out) (net : Net) (fit : 
                 let sent-back = length (r .course .transmissions) in
                 reply-most sent-back (length ahead) (length back) (length (stations b)) (named-count p z f g) (r .most);
             changes = inl (r .kept);
+            fine = still-fine Reply c w (r .course .transmissions) (r .fine);
             plain = r .plain;
+            refused-keeps = λ k e. r .kept;
             fresh = λ fresh. absurd (reply-request (fresh .request));
           };
         }
@@ -139,7 +145,9 @@ module _ (out : List ℕ) (room : callOutput ≤ length out) (net : Net) (fit : 
                 request-most (length (o .course .transmissions)) (length ahead) (length back) (length (stations b)) (named-count p z f g) (o .most);
             changes = subst (λ (a : ℕ). (o .course .after ≡ net) ⊎ ((t : List ℕ) × (o .course .after ≡ withTable a t net)))
                 (sym (before-zeros p z f (full-reverse g))) (o .changes);
+            fine = o .fine;
             plain = o .plain;
+            refused-keeps = o .refused-keeps;
             fresh = fresh-out net c form body p z f g o;
           };
         }
@@ -165,7 +173,7 @@ module _ (out : List ℕ) (room : callOutput ≤ length out) (net : Net) (fit : 
         record {
           course = unheard tg net atZero;
           journey = ends-zero net tg (remarked (head fn c form b)) (reads-well fn c w) (first-is fn c w e);
-          ran = ran-alone net (head fn c form b) body tg atZero (λ fresh. fresh .first-named e);
+          ran = ran-alone net (head fn c form b) body tg atZero (still-fine fn c w [] refl) (λ fresh. fresh .first-named e);
         }
 
     by-first : (n : ℕ) → first b ≡ n → StartOf net fn c form b body

@@ -1,8 +1,8 @@
 -- The telegrams of a journey: what makes one faultless, how it is heard, and what is sent of it.
 -- Assumes nothing.
 use mathlib.Core.Path.{_≡_, refl, _∙_, ap, ap₂}
-use mathlib.Core.Bool.{true}
-use mathlib.Core.List.{List}
+use mathlib.Core.Bool.{true, _&&_}
+use mathlib.Core.List.{List, _∷_}
 use Prim.Native.Nat.{ℕ, _+_, _≤_}
 use native.Mathlib.Omega.{arith}
 use lib.ListN.{length}
@@ -21,7 +21,7 @@ use Rattle.mop_header.proofs.Marks.{remarked-agrees, remarked-block, marked-twi
 use Rattle.mop_header.proofs.ReadBack.{reads-back, body-behind}
 use Rattle.mop_header.proofs.Writing.{length-telegram}
 use Rattle.mop_station.specs.Station.{replied}
-use Rattle.journey.specs.Demand3.{hears, heardIn, heard}
+use Rattle.journey.specs.Demand3.{hears, heardIn, heard, isFine, allFine}
 
 -- a telegram with the mark that its block asks for
 abbrev pub telegramFor : Function → ℕ → Form → List ℕ → List ℕ → List ℕ
@@ -63,6 +63,9 @@ module _ (f : Function) (c : ℕ) {form : Form} {b body : List ℕ} (w : Faultle
 
   pub reads-well : reading Station (telegramFor f c form b body) ≡ sound (remarked (head f c form b))
   reads-well = reads-back Station (remarked (head f c form b)) body in-order (rw whole-length (w .short)) .0
+
+  pub still-fine : (rest : List (List ℕ)) → allFine rest ≡ true → allFine (telegramFor f c form b body ∷ rest) ≡ true
+  still-fine rest e = ap (λ (r : Reading). isFine (r .finding) && allFine rest) reads-well ∙ e
 
   pub heard-as : {a : ℕ} → first b ≡ a → heard (telegramFor f c form b body) ≡ hears f a body
   unfolding remarked

@@ -15,7 +15,7 @@ use Rattle.mop_header.specs.declared.Reader.the-variants.{Station}
 use Rattle.mop_header.proofs.Lengths.{sized-most}
 use Rattle.mop_header.proofs.ReadBack.{is-written}
 use Rattle.journey.specs.Net.{Net, goodNet, isThere, tableAt, withTable}
-use Rattle.journey.specs.Journey.{Ending, atNobody, Course, unheard, callOutput, Journey}
+use Rattle.journey.specs.Journey.{Ending, atNobody, refusedWith, Course, unheard, callOutput, Journey}
 use Rattle.journey.specs.Demand3.{m, beforeZeros, Demand3, TheJourney, EveryJourney}
 use Rattle.journey.specs.Transmissions.{ByteForByte}
 use Rattle.journey.specs.Bounded.{mostTransmissions, PlaysTheJourney}
@@ -51,6 +51,10 @@ module _ (net : Net) (tg : List ℕ) (fit : goodNet net ≡ true) where
   ran : {c : Course} → Journey net tg c → (h : Head) → reading Station tg ≡ sound h → Ran net h (bodyOf h tg) c
   ran j h order = let s = started h order in subst (Ran net h (bodyOf h tg)) (unique (s .journey) j) (s .ran)
 
+  refused-kept : {c : Course} → Journey net tg c → (v : Finding) → reading Station tg .finding ≡ v → (k : ℕ) → c .ending ≡ refusedWith k → c .after ≡ net
+  refused-kept j (fault k) e n r = ap (λ (d : Course). d .after) (unique j (ends-faulty net tg k e))
+  refused-kept j fine e n r = ran j (reading Station tg .header) (reading-fine tg e) .refused-keeps n r
+
   demand3 : {c : Course} → Journey net tg c → Demand3 net tg c
   demand3 {c} j = record {
     fault-refused = λ k e own t out address long. call-fault own t tg out k e address long;
@@ -64,6 +68,8 @@ module _ (net : Net) (tg : List ℕ) (fit : goodNet net ≡ true) where
         fulfilled net h (bodyOf h tg) c (ran j h order .fresh fresh all verdict) fit (some-named (h .block) (fresh .first-named)) all verdict;
     others-kept = λ h order a n. other-kept net (c .after) a (beforeZeros (h .block)) (ran j h order .changes) n;
     same-stations = stations-stay j;
+    refused-keeps = refused-kept j (reading Station tg .finding) refl;
+    all-fine = λ h order. ran j h order .fine;
     all-ordinary = λ h order. ran j h order .plain;
   }
 

@@ -87,6 +87,15 @@ abbrev pub allOrdinary : List Handled → Bool
 allOrdinary [] = true
 allOrdinary (a ∷ rest) = ordinary a && allOrdinary rest
 
+-- whether telegrams are without a fault in their headers
+abbrev pub isFine : Finding → Bool
+isFine fine = true
+isFine (fault k) = false
+
+abbrev pub allFine : List (List ℕ) → Bool
+allFine [] = true
+allFine (tg ∷ rest) = isFine (reading Station tg .finding) && allFine rest
+
 pub record Demand3 (net : Net) (tg : List ℕ) (c : Course) : Type 0 where
   -- a telegram with a fault of 12 or 2 to 6 is refused alike by every station, the journey ends with it, and nothing changes
   pub fault-refused : (k : ℕ) → reading Station tg .finding ≡ fault k → (own : ℕ) (t out : List ℕ) → isAddress own ≡ true → length t ≡ tableLength →
@@ -109,7 +118,11 @@ pub record Demand3 (net : Net) (tg : List ℕ) (c : Course) : Type 0 where
   pub others-kept : (h : Head) → reading Station tg ≡ sound h → (a : ℕ) → (a ≡ beforeZeros (h .block) → ⊥) →
       tableAt a (c .after) ≡ tableAt a net
   pub same-stations : addressesOf (c .after) ≡ addressesOf net
-  -- no called station gives 1, 11, 12, 2 to 6 or "not mine"
+  -- where a station refuses, no table has changed at all
+  pub refused-keeps : (k : ℕ) → c .ending ≡ refusedWith k → c .after ≡ net
+  -- if the first telegram is without a fault of 12 or 2 to 6, so is every transmission; and no called station gives 1, 11, 12, 2
+  -- to 6 or "not mine"
+  pub all-fine : (h : Head) → reading Station tg ≡ sound h → allFine (c .transmissions) ≡ true
   pub all-ordinary : (h : Head) → reading Station tg ≡ sound h → allOrdinary (c .answers) ≡ true
 
 -- a first telegram has a journey, only one, and demand 3 holds of it
