@@ -1,0 +1,219 @@
+-- The net of addresses and their tables end to end: its tables, and one of them changed.
+-- Assumes nothing.
+use mathlib.Core.Path.{_≡_, refl, sym, _∙_, ap, ap₂}
+use mathlib.Core.Bool.{Bool, true, false, _||_, and-eq-true-iff}
+use mathlib.Core.List.{List, [], _∷_, _++_, append-assoc}
+use Prim.Native.Nat.{ℕ, suc, _+_, _*_, _<_}
+use native.Mathlib.Nat.{add-comm, mul-suc}
+use native.Mathlib.Omega.{arith}
+use borrow.Author.Tests.{eqb-true, eq-eqb, ltb-true, lt-ltb}
+use lib.Dec.{eqb, leb, ltb, leb·suc-suc}
+use lib.ListN.{length, take, drop, length-append, length-take, length-drop, take-append-drop, drop-of-length-le}
+use lib.Seq.{length-take-le, take-at, drop-at, drop-drop, take-add}
+use Rattle.base.specs.Choice.{pick}
+use Rattle.registers.specs.Rows.{tableLength}
+use Rattle.registers.proofs.Places.{table-length}
+use Rattle.mop_block.specs.Block.{has, distinctAddresses}
+use Rattle.journey.specs.Net.{NetStation, Net, addressesOf, rightTables, goodNet, isThere, tableAt, withTable}
+use Rattle.net.specs.Tables.{netOf, tablesOf, maxStations, tablesFit, setUp}
+use Rattle.net.specs.Place.{placeIn}
+use Rattle.net.specs.DryRun.{SameTables}
+
+module _ (addresses tables : List ℕ) where
+  -- tables that fit have the right length
+  pub fit-length : tablesFit addresses tables ≡ true → length tables ≡ tableLength * length addresses
+  unfolding tablesFit
+  fit-length e =
+      let l = length addresses in
+      eqb-true (length tables) (tableLength * l) (and-eq-true-iff (leb l maxStations) (eqb (length tables) (tableLength * l)) .0 e .1)
+
+  pub fit-size : tablesFit addresses tables ≡ true → length tables ≡ 18 * length addresses
+  fit-size e = rw table-length at (fit-length e)
+
+  -- and tables of that length fit too
+  fit-same : (after : List ℕ) → length after ≡ length tables → tablesFit addresses tables ≡ true → tablesFit addresses after ≡ true
+  unfolding tablesFit
+  fit-same after e fits = rw e fits
+
+  set-up-parts : setUp addresses tables ≡ true → (tablesFit addresses tables ≡ true) × (distinctAddresses addresses ≡ true)
+  unfolding setUp
+  set-up-parts e = and-eq-true-iff (tablesFit addresses tables) (distinctAddresses addresses) .0 e
+
+  pub set-up-fit : setUp addresses tables ≡ true → tablesFit addresses tables ≡ true
+  set-up-fit e = set-up-parts e .0
+
+-- the first of n + 1 tables, and the tables behind it
+module _ (n : ℕ) where
+  table-step : tableLength * suc n ≡ tableLength + tableLength * n
+  table-step = mul-suc tableLength n ∙ add-comm (tableLength * n) tableLength
+
+  module _ (tables : List ℕ) (e : length tables ≡ tableLength * suc n) where
+    length-first : length (take tableLength tables) ≡ tableLength
+    length-first = length-take-le tableLength tables (omega (arith, table-step))
+
+    length-later : length (drop tableLength tables) ≡ tableLength * n
+    length-later = omega (arith, table-step, length-drop tableLength tables)
+
+-- no tables for no addresses
+none-left : (tables : List ℕ) → length tables ≡ tableLength * 0 → tables ≡ []
+unfolding tableLength
+none-left tables e = drop-of-length-le tables {i = 0} (omega arith)
+
+pub tables-of-net : (addresses tables : List ℕ) → length tables ≡ tableLength * length addresses → tablesOf (netOf addresses tables) ≡ tables
+unfolding netOf tablesOf
+tables-of-net [] tables e = sym (none-left tables e)
+tables-of-net (a ∷ rest) tables e =
+    ap (λ (l : List ℕ). take tableLength tables ++ l) (tables-of-net rest (drop tableLength tables) (length-later (length rest) tables e))
+    ∙ take-append-drop tableLength tables
+
+pub same-tables : SameTables
+same-tables addresses tables e = tables-of-net addresses tables (fit-length addresses tables (set-up-fit addresses tables e))
+
+-- a net that is set up rightly is a good one
+addresses-of-net : (addresses tables : List ℕ) → addressesOf (netOf addresses tables) ≡ addresses
+unfolding netOf
+addresses-of-net [] tables = refl
+addresses-of-net (a ∷ rest) tables = ap (λ (l : List ℕ). a ∷ l) (addresses-of-net rest (drop tableLength tables))
+
+right-net : (addresses tables : List ℕ) → length tables ≡ tableLength * length addresses → rightTables (netOf addresses tables) ≡ true
+unfolding netOf rightTables
+right-net [] tables e = refl
+right-net (a ∷ rest) tables e =
+    rw (eq-eqb (length (take tableLength tables)) tableLength (length-first (length rest) tables e))
+    (right-net rest (drop tableLength tables) (length-later (length rest) tables e))
+
+pub good-net : (addresses tables : List ℕ) → setUp addresses tables ≡ true → goodNet (netOf addresses tables) ≡ true
+unfolding goodNet
+good-net addresses tables e =
+    let both = set-up-parts addresses tables e in
+    rw (addresses-of-net addresses tables, both .1) (right-net addresses tables (fit-length addresses tables (both .0)))
+
+-- an address is there if it has a place
+has-first : (a : ℕ) (rest : List ℕ) → has a rest ≡ ltb (placeIn a rest) (length rest) → (c : Bool) →
+    (c || has a rest) ≡ ltb (pick c 0 (suc (placeIn a rest))) (suc (length rest))
+has-first a rest more true = sym (lt-ltb 0 (suc (length rest)) (omega arith))
+has-first a rest more false = more ∙ sym (leb·suc-suc (suc (placeIn a rest)) (length rest))
+
+has-place : (a : ℕ) (addresses : List ℕ) → has a addresses ≡ ltb (placeIn a addresses) (length addresses)
+unfolding has placeIn
+has-place a [] = refl
+has-place a (x ∷ rest) = has-first a rest (has-place a rest) (eqb a x)
+
+pub there-place : (a : ℕ) (addresses tables : List ℕ) → isThere a (netOf addresses tables) ≡ ltb (placeIn a addresses) (length addresses)
+unfolding isThere
+there-place a addresses tables = ap (has a) (addresses-of-net addresses tables) ∙ has-place a addresses
+
+-- where the table of a place begins, that table, and the tables with another one there
+abbrev pub startOf : ℕ → ℕ
+startOf place = tableLength * place
+
+abbrev pub partAt : ℕ → List ℕ → List ℕ
+partAt place tables = take tableLength (drop (startOf place) tables)
+
+abbrev pub putAt : ℕ → List ℕ → List ℕ → List ℕ
+putAt place t tables = take (startOf place) tables ++ (t ++ drop tableLength (drop (startOf place) tables))
+
+start-zero : startOf 0 ≡ 0
+unfolding tableLength
+start-zero = refl
+
+drop-step : (n : ℕ) (tables : List ℕ) → drop (startOf (suc n)) tables ≡ drop (startOf n) (drop tableLength tables)
+drop-step n tables = ap (λ (k : ℕ). drop k tables) (table-step n) ∙ sym (drop-drop (startOf n) tableLength tables)
+
+put-zero : (t tables : List ℕ) → putAt 0 t tables ≡ t ++ drop tableLength tables
+put-zero t tables = ap (λ (k : ℕ). take k tables ++ (t ++ drop tableLength (drop k tables))) start-zero
+
+put-step : (n : ℕ) (t tables : List ℕ) → putAt (suc n) t tables ≡ take tableLength tables ++ putAt n t (drop tableLength tables)
+put-step n t tables =
+    ap₂ (λ (u v : List ℕ). u ++ (t ++ drop tableLength v))
+    (ap (λ (k : ℕ). take k tables) (table-step n) ∙ take-add tableLength (startOf n) tables) (drop-step n tables)
+    ∙ append-assoc (take tableLength tables) (take (startOf n) (drop tableLength tables))
+    (t ++ drop tableLength (drop (startOf n) (drop tableLength tables)))
+
+-- one of k tables
+module _ (n k : ℕ) (tables : List ℕ) (h : n < k) (e : length tables ≡ tableLength * k) where
+  pub length-part : length (partAt n tables) ≡ tableLength
+  unfolding tableLength
+  length-part = length-take-le 18 (drop (18 * n) tables) (omega (arith, length-drop (18 * n) tables))
+
+  length-put : (t : List ℕ) → length t ≡ tableLength → length (putAt n t tables) ≡ length tables
+  unfolding tableLength
+  length-put t l = simp (length-append, length-take, length-drop) (omega arith)
+
+-- the table at an address is the one at its place: the first, or one behind it
+module _ (a x : ℕ) (rest tables : List ℕ) where
+  abbrev later : List ℕ
+  later = drop tableLength tables
+
+  abbrev station : List ℕ → NetStation
+  station t = record { address = x; registers = t }
+
+  abbrev place : Bool → ℕ
+  place c = pick c 0 (suc (placeIn a rest))
+
+  table-first : (placeIn a rest < length rest → tableAt a (netOf rest later) ≡ partAt (placeIn a rest) later) →
+      (c : Bool) → place c < suc (length rest) → pick c (take tableLength tables) (tableAt a (netOf rest later)) ≡ partAt (place c) tables
+  table-first more true h = ap (λ (k : ℕ). take tableLength (drop k tables)) (sym start-zero)
+  table-first more false h = more (omega arith) ∙ ap (take tableLength) (sym (drop-step (placeIn a rest) tables))
+
+  -- another table at an address is another one at its place
+  with-first : (t : List ℕ) → length tables ≡ tableLength * suc (length rest) → length t ≡ tableLength →
+      (placeIn a rest < length rest → withTable a t (netOf rest later) ≡ netOf rest (putAt (placeIn a rest) t later)) →
+      (c : Bool) → place c < suc (length rest) →
+      pick c (station t ∷ netOf rest later) (station (take tableLength tables) ∷ withTable a t (netOf rest later))
+      ≡ netOf (x ∷ rest) (putAt (place c) t tables)
+  unfolding netOf
+  with-first t e l more true h = rw (put-zero t tables, take-at t later tableLength l, drop-at t later tableLength l)
+  with-first t e l more false h =
+      let first = take tableLength tables in
+      let behind = putAt (placeIn a rest) t later in
+      let long = length-first (length rest) tables e in
+      rw (put-step (placeIn a rest) t tables, take-at first behind tableLength long, drop-at first behind tableLength long)
+      (ap (λ (n : Net). station first ∷ n) (more (omega arith)))
+
+pub table-at-place : (a : ℕ) (addresses tables : List ℕ) → placeIn a addresses < length addresses →
+    tableAt a (netOf addresses tables) ≡ partAt (placeIn a addresses) tables
+unfolding netOf tableAt placeIn
+table-at-place a [] tables h = absurd (omega arith)
+table-at-place a (x ∷ rest) tables h = table-first a x rest tables (table-at-place a rest (drop tableLength tables)) (eqb a x) h
+
+with-net : (a : ℕ) (addresses tables t : List ℕ) → placeIn a addresses < length addresses →
+    length tables ≡ tableLength * length addresses → length t ≡ tableLength →
+    withTable a t (netOf addresses tables) ≡ netOf addresses (putAt (placeIn a addresses) t tables)
+unfolding netOf withTable placeIn
+with-net a [] tables t h e l = absurd (omega arith)
+with-net a (x ∷ rest) tables t h e l =
+    with-first a x rest tables t e l
+    (λ g. with-net a rest (drop tableLength tables) t g (length-later (length rest) tables e) l) (eqb a x) h
+
+-- an address that is there, in tables that fit
+module _ (a : ℕ) (addresses tables : List ℕ) (fits : tablesFit addresses tables ≡ true) (there : isThere a (netOf addresses tables) ≡ true) where
+  here : placeIn a addresses < length addresses
+  here = ltb-true (placeIn a addresses) (length addresses) (sym (there-place a addresses tables) ∙ there)
+
+  pub length-table : length (tableAt a (netOf addresses tables)) ≡ tableLength
+  length-table =
+      ap length (table-at-place a addresses tables here)
+      ∙ length-part (placeIn a addresses) (length addresses) tables here (fit-length addresses tables fits)
+
+  -- another table of the right length for it
+  module _ (t : List ℕ) (long : length t ≡ tableLength) where
+    abbrev new : List ℕ
+    new = putAt (placeIn a addresses) t tables
+
+    new-net : withTable a t (netOf addresses tables) ≡ netOf addresses new
+    new-net = with-net a addresses tables t here (fit-length addresses tables fits) long
+
+    new-fits : tablesFit addresses new ≡ true
+    new-fits =
+        fit-same addresses tables new
+        (length-put (placeIn a addresses) (length addresses) tables here (fit-length addresses tables fits) t long) fits
+
+    pub new-tables : tablesOf (withTable a t (netOf addresses tables)) ≡ new
+    new-tables = ap tablesOf new-net ∙ tables-of-net addresses new (fit-length addresses new new-fits)
+
+    pub tables-new-fit : tablesFit addresses (tablesOf (withTable a t (netOf addresses tables))) ≡ true
+    tables-new-fit = rw new-tables new-fits
+
+    pub net-of-new : netOf addresses (tablesOf (withTable a t (netOf addresses tables))) ≡ withTable a t (netOf addresses tables)
+    net-of-new = ap (netOf addresses) new-tables ∙ sym new-net

@@ -1,0 +1,4 @@
+pub mod Tables
+pub mod Place
+pub mod Hop
+pub mod DryRun
