@@ -13,7 +13,7 @@ use Rattle.mop_header.specs.Header.{Head, bodyOf}
 use Rattle.mop_header.specs.Reading.{Finding, fine, fault, sound, goodFor, reading}
 use Rattle.mop_header.specs.declared.Reader.the-variants.{Station}
 use Rattle.mop_header.proofs.Lengths.{sized-most}
-use Rattle.mop_header.proofs.ReadBack.{is-written}
+use Rattle.mop_header.proofs.ReadBack.{is-written, reading-fine}
 use Rattle.journey.specs.Net.{Net, goodNet, isThere, tableAt, withTable}
 use Rattle.journey.specs.Journey.{Ending, atNobody, refusedWith, Course, unheard, callOutput, Journey}
 use Rattle.journey.specs.Demand3.{m, beforeZeros, Demand3, TheJourney, EveryJourney}
@@ -40,9 +40,6 @@ other-kept : (net after : Net) (a d : ℕ) → (after ≡ net) ⊎ ((t : List �
 other-kept net after a d (inl e) n = ap (tableAt a) e
 other-kept net after a d (inr x) n = ap (tableAt a) (x .1) ∙ table-other d a (x .0) net n
 
-reading-fine : (tg : List ℕ) → reading Station tg .finding ≡ fine → reading Station tg ≡ sound (reading Station tg .header)
-reading-fine tg e = λ i. record { finding = e i; header = reading Station tg .header }
-
 -- whatever journey it is
 module _ (net : Net) (tg : List ℕ) (fit : goodNet net ≡ true) where
   started : (h : Head) → reading Station tg ≡ sound h → Start net tg h (bodyOf h tg)
@@ -53,7 +50,7 @@ module _ (net : Net) (tg : List ℕ) (fit : goodNet net ≡ true) where
 
   refused-kept : {c : Course} → Journey net tg c → (v : Finding) → reading Station tg .finding ≡ v → (k : ℕ) → c .ending ≡ refusedWith k → c .after ≡ net
   refused-kept j (fault k) e n r = ap (λ (d : Course). d .after) (unique j (ends-faulty net tg k e))
-  refused-kept j fine e n r = ran j (reading Station tg .header) (reading-fine tg e) .refused-keeps n r
+  refused-kept j fine e n r = ran j (reading Station tg .header) (reading-fine Station tg e) .refused-keeps n r
 
   demand3 : {c : Course} → Journey net tg c → Demand3 net tg c
   demand3 {c} j = record {
@@ -79,7 +76,7 @@ module _ (net : Net) (tg : List ℕ) (fit : goodNet net ≡ true) where
   -- by what reading says
   by-finding : (v : Finding) → reading Station tg .finding ≡ v → TheJourney net tg
   by-finding (fault k) e = given (ends-faulty net tg k e)
-  by-finding fine e = given (started (reading Station tg .header) (reading-fine tg e) .journey)
+  by-finding fine e = given (started (reading Station tg .header) (reading-fine Station tg e) .journey)
 
 pub every-journey : EveryJourney
 every-journey net tg fit = by-finding net tg fit (reading Station tg .finding) refl
@@ -106,7 +103,7 @@ module _ (net : Net) (tg : List ℕ) (c : Course) (d : Demand3 net tg c) where
 
   most-by : (v : Finding) → reading Station tg .finding ≡ v → length (c .transmissions) ≤ mostTransmissions
   most-by (fault k) e = one-transmission tg net (d .fault-ends k e)
-  most-by fine e = let h = reading Station tg .header in named-most h (reading-fine tg e) (m h) refl
+  most-by fine e = let h = reading Station tg .header in named-most h (reading-fine Station tg e) (m h) refl
 
 pub at-most-62 : (net : Net) (tg : List ℕ) (c : Course) → goodNet net ≡ true → Journey net tg c → length (c .transmissions) ≤ mostTransmissions
 at-most-62 net tg c fit j = most-by net tg c (demand3 net tg fit j) (reading Station tg .finding) refl

@@ -153,3 +153,11 @@ is-written who tg h e =
 -- the header stands in the telegram
 pub sound-room : (who : Reader) (tg : List ℕ) (h : Head) → reading who tg ≡ sound h → headerLength h ≤ length tg
 sound-room who tg h e = omega (arith, length-telegram h (bodyOf h tg), ap length (is-written who tg h e .whole))
+
+-- a telegram without a fault in its header reads as that header, and is not too long
+module _ (who : Reader) (tg : List ℕ) (e : reading who tg .finding ≡ fine) where
+  pub reading-fine : reading who tg ≡ sound (reading who tg .header)
+  reading-fine = λ i. record { finding = e i; header = reading who tg .header }
+
+  pub fine-short : length tg ≤ maxTelegram
+  fine-short = is-written who tg (reading who tg .header) reading-fine .short

@@ -4,7 +4,7 @@ mod Calls
 mod Meetings
 pub mod Hops
 mod Courses
-mod Outputs
+pub mod Outputs
 mod Runs
 mod DryRuns
 pub mod Journeys

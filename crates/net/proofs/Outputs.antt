@@ -37,7 +37,7 @@ zeros-part i m h =
     ∙ ap (take left) (drop-at (zeros i) (zeros left) i (length-zeros i))
     ∙ take-all left (zeros left) (omega (arith, length-zeros left))
 
-length-padded : (tg : List ℕ) → length tg ≤ runOutput → length (padded tg) ≡ runOutput
+pub length-padded : (tg : List ℕ) → length tg ≤ runOutput → length (padded tg) ≡ runOutput
 unfolding padded
 length-padded tg h = omega (arith, length-append tg (zeros (runOutput - length tg)), length-zeros (runOutput - length tg))
 

@@ -3,10 +3,10 @@
 use mathlib.Core.Path.{_≡_, refl, sym, _∙_, ap, ap₂}
 use mathlib.Core.Bool.{Bool, true, false, _||_, and-eq-true-iff}
 use mathlib.Core.List.{List, [], _∷_, _++_, append-assoc}
-use Prim.Native.Nat.{ℕ, suc, _+_, _*_, _<_}
+use Prim.Native.Nat.{ℕ, suc, _+_, _*_, _≤_, _<_}
 use native.Mathlib.Nat.{add-comm, mul-suc}
 use native.Mathlib.Omega.{arith}
-use borrow.Author.Tests.{eqb-true, eq-eqb, ltb-true, lt-ltb}
+use borrow.Author.Tests.{eqb-true, eq-eqb, ltb-true, lt-ltb, lt-leb, le-leb}
 use lib.Dec.{eqb, leb, ltb, leb·suc-suc}
 use lib.ListN.{length, take, drop, length-append, length-take, length-drop, take-append-drop, drop-of-length-le}
 use lib.Seq.{length-take-le, take-at, drop-at, drop-drop, take-add}
@@ -29,6 +29,15 @@ module _ (addresses tables : List ℕ) where
 
   pub fit-size : tablesFit addresses tables ≡ true → length tables ≡ 18 * length addresses
   fit-size e = rw table-length at (fit-length e)
+
+  -- too many addresses, or else the length decides
+  pub too-many : maxStations < length addresses → tablesFit addresses tables ≡ false
+  unfolding tablesFit
+  too-many h = rw (lt-leb (length addresses) maxStations h)
+
+  pub length-decides : length addresses ≤ maxStations → tablesFit addresses tables ≡ eqb (length tables) (tableLength * length addresses)
+  unfolding tablesFit
+  length-decides h = rw (le-leb (length addresses) maxStations h)
 
   -- and tables of that length fit too
   fit-same : (after : List ℕ) → length after ≡ length tables → tablesFit addresses tables ≡ true → tablesFit addresses after ≡ true
