@@ -1,0 +1,72 @@
+use mathlib.Core.Path.{refl}
+use Rattle.refusal.specs.Numbers.{numberOf}
+use mathlib.Core.Path.{ap, sym, _∙_}
+use mathlib.Core.List.{[], _∷_}
+use native.Mathlib.Omega.{arith}
+use lib.ListN.{length-set}
+use Rattle.net.specs.Hop.{endingOf}
+use Rattle.net.specs.declared.JourneyEnd.{JourneyEnd}
+use Rattle.report.specs.Text.{space, refusedText, endingText}
+use Rattle.report.specs.Writing.{writing}
+use Rattle.report.proofs.Writing.{nothing, worded}
+-- `write_ending`: nothing, or a space and the refusal.
+-- Assumes nothing.
+use borrow.Author.Needs.{needs}
+use Rattle.report.proofs.write_ending.Statement.{statement}
+use Rattle.report.proofs.write_ending.Tie as tie
+
+enum-told : tie.Need-enum-told
+enum-told c = search needs
+
+enum-told-2 : tie.Need-enum-told-2
+enum-told-2 c = search needs
+
+enum-known-end : tie.Need-enum-known-end
+enum-known-end c = search needs
+
+slice-write-out : tie.Need-slice-write-out
+slice-write-out c = search needs
+
+add-write-refused : tie.Need-add-write-refused
+add-write-refused c = search needs
+
+write-refused-requires : tie.Need-write-refused-requires
+write-refused-requires c κs = simp length-set (omega arith)
+
+returns : tie.Need-returns
+unfolding endingText
+returns c =
+    let a = c .before .before .before .args in
+    nothing (a .at) (a .out .now) ∙ ap (λ (e : JourneyEnd). writing (a .at) (endingText (endingOf e)) (a .out .now)) (sym (c .enum-told .given .1))
+
+returns-2 : tie.Need-returns-2
+unfolding endingText
+returns-2 c =
+    let a = c .before .before .before .args in
+    nothing (a .at) (a .out .now) ∙ ap (λ (e : JourneyEnd). writing (a .at) (endingText (endingOf e)) (a .out .now)) (sym (c .enum-told2 .given .1))
+
+same-length : tie.Need-same-length
+same-length c = c .before .before .write-refused .kept .1 .0 ∙ simp length-set
+
+returns-3 : tie.Need-returns-3
+unfolding endingText
+returns-3 c =
+    let a = c .before .before .before .before .before .before .before .before .args in
+    let k = numberOf (c .before .before .before .before .before .end .given .0 .0) in
+    worded (a .at) (space ∷ []) (refusedText k) (a .out .now) refl (c .before .before .write-refused .ensures)
+    ∙ ap (λ (e : JourneyEnd). writing (a .at) (endingText (endingOf e)) (a .out .now)) (sym (c .before .before .before .before .before .end .given .1))
+
+pub write-ending-spec : {M : Type 1} → statement M
+write-ending-spec =
+    tie.close
+    (tie.spec
+    enum-told
+    enum-told-2
+    enum-known-end
+    slice-write-out
+    add-write-refused
+    write-refused-requires
+    returns
+    returns-2
+    same-length
+    returns-3)

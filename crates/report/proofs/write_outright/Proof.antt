@@ -1,0 +1,38 @@
+use native.Mathlib.Omega.{arith}
+use Rattle.refusal.specs.Numbers.{numberOf}
+use Rattle.report.specs.Text.{lineFeed, refusedText, outrightText}
+use Rattle.report.proofs.Writing.{place, stored}
+use Rattle.report.proofs.Lengths.{refused-bound}
+-- `write_outright`: the end of the line behind the refusal.
+-- Assumes nothing.
+use borrow.Author.Needs.{needs}
+use Rattle.report.proofs.write_outright.Statement.{statement}
+use Rattle.report.proofs.write_outright.Tie as tie
+
+write-refused-requires : tie.Need-write-refused-requires
+write-refused-requires c κs = search needs
+
+slice-write-out : tie.Need-slice-write-out
+slice-write-out c =
+    let a = c .before .before .before .before .before .args in
+    let k = numberOf (a .refusal) in
+    omega (arith, place 0 (refusedText k) (a .out .now) (c .before .before .write-refused .ensures), refused-bound k)
+
+add-result : tie.Need-add-result
+add-result c =
+    let a = c .before .before .before .before .before .args in
+    let k = numberOf (a .refusal) in
+    omega (arith, place 0 (refusedText k) (a .out .now) (c .before .before .write-refused .ensures), refused-bound k)
+
+same-length : tie.Need-same-length
+same-length c = search needs
+
+returns : tie.Need-returns
+unfolding outrightText
+returns c =
+    let a = c .before .before .before .before .before .args in
+    stored 0 (refusedText (numberOf (a .refusal))) lineFeed (a .out .now) (c .before .before .write-refused .ensures)
+
+pub write-outright-spec : {M : Type 1} → statement M
+write-outright-spec =
+    tie.close (tie.spec write-refused-requires slice-write-out add-result same-length returns)

@@ -1,0 +1,63 @@
+-- The report: a journey played over tables end to end, and told as text.
+-- Assumes nothing.
+use Prim.Native.Nat.{ℕ, _≤_}
+use mathlib.Core.Path.{_≡_}
+use mathlib.Core.Bool.{true, not}
+use mathlib.Core.List.{List}
+use lib.Dec.{ltb}
+use lib.ListN.{length}
+use Rattle.base.specs.Choice.{pick}
+use Rattle.base.specs.Places.{placed}
+use Rattle.base.specs.Filling.{Given, filled, refused}
+use Rattle.refusal.specs.Writing.{givenOf}
+use Rattle.refusal.specs.declared.WriteAnswer.{WriteAnswer}
+use Rattle.mop_header.specs.Reading.{Finding, fine, fault, reading}
+use Rattle.mop_header.specs.declared.Reader.the-variants.{Station}
+use Rattle.journey.specs.Demand3.{TheJourney}
+use Rattle.journey.specs.Bounded.{playing, mostTransmissions}
+use Rattle.net.specs.Tables.{netOf, tablesOf, setUp}
+use Rattle.report.specs.Text.{courseText, outrightText}
+
+-- what is given back, the length of the text or a refusal, and the tables and the output afterwards
+pub record Report : Type 0 where
+  pub given : Given
+  pub tables : List ℕ
+  pub output : List ℕ
+
+abbrev pub leaves : Given → List ℕ → List ℕ → Report
+leaves g tables out = record { given = g; tables = tables; output = out }
+
+abbrev pub reportOf : WriteAnswer → List ℕ → List ℕ → Report
+reportOf r tables out = leaves (givenOf r) tables out
+
+-- a text in the first places of the output
+unfoldable pub tells : List ℕ → List ℕ → List ℕ → Report
+tells text tables out = leaves (filled (length text)) tables (placed text out)
+
+-- the places that the longest text may need: a line has at most 102 characters, and 63 lines and the last one are under 6,500
+abbrev pub reportOutput : ℕ
+reportOutput = 6500
+
+-- the text of a telegram with a fault of its header, and that of its journey
+unfoldable pub toldOf : Finding → List ℕ → List ℕ → List ℕ → List ℕ → Report
+toldOf (fault k) tg addresses tables out = tells (outrightText k) tables out
+toldOf fine tg addresses tables out =
+    let c = playing mostTransmissions (netOf addresses tables) tg in
+    tells (courseText c) (tablesOf (c .after)) out
+
+-- the call: 11 for its own output; then the text of the dry run, with 1, 12 and 2 to 6 told as text
+unfoldable pub reporting : List ℕ → List ℕ → List ℕ → List ℕ → Report
+reporting tg addresses tables out =
+    pick (ltb (length out) reportOutput) (leaves (refused 11) tables out)
+    (pick (not (setUp addresses tables)) (tells (outrightText 1) tables out)
+    (toldOf (reading Station tg .finding) tg addresses tables out))
+
+-- what is told of a call that is not refused is the one journey of that net
+pub record ToldTheJourney (tg addresses tables out : List ℕ) : Type 0 where
+  pub journey : TheJourney (netOf addresses tables) tg
+  pub tells-it : reporting tg addresses tables out ≡ tells (courseText (journey .course)) (tablesOf (journey .course .after)) out
+
+abbrev pub TellsTheJourney : Type 0
+TellsTheJourney =
+    (tg addresses tables out : List ℕ) → setUp addresses tables ≡ true → reportOutput ≤ length out → reading Station tg .finding ≡ fine →
+    ToldTheJourney tg addresses tables out
