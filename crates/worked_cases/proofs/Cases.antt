@@ -1,8 +1,15 @@
 -- The table of worked cases, computed.
 -- Assumes nothing.
-use mathlib.Core.Path.{refl}
+use mathlib.Core.Path.{_≡_, refl, sym, _∙_, ap}
+use mathlib.Core.Bool.{true}
+use mathlib.Core.List.{List, _++_, append-nil}
+use borrow.Author.Tests.{leb-true}
+use lib.Dec.{leb}
+use lib.ListN.{length, getD, replicate, length-replicate, drop-of-length-le}
+use Prim.Native.Nat.{ℕ, suc, _-_, _≤_}
+use native.Mathlib.Omega.{arith}
 use Rattle.base.specs.Places.{placed}
-use Rattle.base.specs.Filling.{fitted}
+use Rattle.base.specs.Filling.{filled, fitted}
 use Rattle.base.specs.Words.{wordsOf, bytesOf}
 use Rattle.link_frame.specs.Frame.{sent, doubled, xorOver, checked, checkByte, frameOf, framing}
 use Rattle.link_receive.specs.Receive.{against, afterStore, byteOf, dataOf, eventOf, insideOf, noRoom, receiveOf, restOf, storeOf, waitingOf}
@@ -11,13 +18,104 @@ use Rattle.registers.specs.Rows.{tableLength, placeOf, exists, mayWrite, takes,
 use Rattle.registers.specs.Runs.{runExists, runMayWrite, runTakes, writes, reads}
 use Rattle.mop_block.specs.Block.{isAddress, has, distinctAddresses, stations, zeroEnds, around, goodBlock, first, next, rolled, rollLeft, rollRight}
 use Rattle.mop_header.specs.Header.{addressBytes, headerBytes, headerLength, telegramOf, bodyOf, mayBegin, isMark, markByte, markIs, withMark, markAgrees, remarked, rolledLeft, rolledRight, asReply, sentBack}
-use Rattle.mop_header.specs.Reading.{allowed, functionAt, goodFor, judged, standardReading, extendedReading, reading}
-use Rattle.mop_station.specs.Body.{judgedRuns, judgedBody, afterWrites, replyWith, replyBody}
+use Rattle.mop_header.specs.Reading.{allowed, fine, functionAt, goodFor, judged, standardReading, extendedReading, reading}
+use Rattle.mop_header.specs.declared.Function.the-variants.{Request}
+use Rattle.mop_header.specs.declared.Reader.the-variants.{Station}
+use Rattle.mop_station.specs.Body.{accepts, judgedRuns, judgedBody, afterWrites, replyWith, replyBody}
 use Rattle.mop_station.specs.Station.{sending, relayed, relaying, replied, keptBy, answering, taking, hearing, handling}
-use Rattle.worked_cases.specs.Cases.{_also_, none, WorkedCases}
+use Rattle.journey.specs.Net.{rightTables, goodNet, isThere, allThere, tableAt, withTable}
+use Rattle.journey.specs.Journey.{Ending, Course, named, addressee, handler}
+use Rattle.journey.specs.Bounded.{calling, playing, mostTransmissions}
+use Rattle.journey.proofs.Whole.{plays-the-journey}
+use Rattle.net.specs.Tables.{netOf, tablesOf, tablesFit, setUp}
+use Rattle.net.specs.DryRun.{runOutput, played, leaves, lastTelegram, padded, ofCourse, dryRun}
+use Rattle.report.specs.Text.{hexDigit, hexBytes, decimal, line, lines, sentText, endingText, closing, courseText}
+use Rattle.report.specs.Report.{reportOutput, reporting}
+use Rattle.report.specs.Report as report
+use Rattle.report.proofs.Journeys.{tells-the-journey}
+use Rattle.net.proofs.Tables.{good-net}
+use Rattle.net.proofs.Outputs.{length-padded}
+use Rattle.net.proofs.Journeys.{runs-the-journey}
+use Rattle.worked_cases.specs.Cases.{factoryTables, factoryNet, Travels, Tells, Accepted, _also_, none, WorkedCases}
+
+-- all of an output that a dry run fills
+padded-alone : (tg : List ℕ) → length tg ≤ runOutput → placed (padded tg) (replicate runOutput 0) ≡ padded tg
+unfolding placed
+padded-alone tg h =
+    ap (λ (l : List ℕ). padded tg ++ l)
+    (drop-of-length-le (replicate runOutput 0) {i = length (padded tg)} (omega (arith, length-padded tg h, length-replicate {A = ℕ} runOutput 0)))
+    ∙ append-nil (padded tg)
+
+-- what is played over stations with factory values is the journey that a dry run plays and a report tells
+module _ (addresses tg : List ℕ) (set : setUp addresses (factoryTables addresses) ≡ true) (well : reading Station tg .finding ≡ fine) where
+  abbrev course : Course
+  course = playing mostTransmissions (factoryNet addresses) tg
+
+  good : goodNet (factoryNet addresses) ≡ true
+  good = good-net addresses (factoryTables addresses) set
+
+  dry-course : (out : List ℕ) → runOutput ≤ length out → dryRun tg addresses (factoryTables addresses) out ≡ ofCourse course out
+  dry-course out room =
+      let ran = runs-the-journey tg addresses (factoryTables addresses) out set room well in
+      ran .gives ∙ ap (λ (c : Course). ofCourse c out) (sym (ran .journey .only course (plays-the-journey (factoryNet addresses) tg good)))
+
+  told-course : (out : List ℕ) → reportOutput ≤ length out →
+      reporting tg addresses (factoryTables addresses) out ≡ report.tells (courseText course) (tablesOf (course .after)) out
+  told-course out room =
+      let told = tells-the-journey tg addresses (factoryTables addresses) out set room well in
+      told .tells-it
+      ∙ ap (λ (c : Course). report.tells (courseText c) (tablesOf (c .after)) out)
+      (sym (told .journey .only course (plays-the-journey (factoryNet addresses) tg good)))
+
+  travels-by : (transmissions : List (List ℕ)) (e : Ending) (after : List ℕ) → course .transmissions ≡ transmissions → course .ending ≡ e →
+      tablesOf (course .after) ≡ after → leb (length (lastTelegram transmissions)) runOutput ≡ true → Travels addresses tg transmissions e after
+  unfolding ofCourse
+  travels-by transmissions e after all ending tables short = record {
+    course = course;
+    journey = plays-the-journey (factoryNet addresses) tg good;
+    all = all;
+    ending = ending;
+    tables = tables;
+    dry =
+        dry-course (replicate 1024 0) (omega (arith, length-replicate {A = ℕ} 1024 0))
+        ∙ (λ i. leaves (played (length (all i)) (ending i) (length (lastTelegram (all i)))) (tables i)
+        (placed (padded (lastTelegram (all i))) (replicate 1024 0)))
+        ∙ ap (leaves (played (length transmissions) e (length (lastTelegram transmissions))) after) (padded-alone (lastTelegram transmissions) (leb-true (length (lastTelegram transmissions)) runOutput short));
+  }
+
+  tells-by : (text : List ℕ) → courseText course ≡ text → Tells addresses tg text
+  tells-by text e = record {
+    tables = tablesOf (course .after);
+    told =
+        told-course (replicate reportOutput 0) (omega (arith, length-replicate {A = ℕ} reportOutput 0))
+        ∙ ap (λ (l : List ℕ). report.tells l (tablesOf (course .after)) (replicate reportOutput 0)) e;
+  }
+
+suc-zero : {n : ℕ} → suc n ≡ 0 → ⊥
+suc-zero e = omega arith
+
+-- what demand 3 asks of it
+promised-by : (addresses tg : List ℕ) →
+    (let h = reading Station tg .header in goodNet (factoryNet addresses) ≡ true → reading Station tg .finding ≡ fine → h .function ≡ Request →
+    (first (h .block) ≡ 0 → ⊥) → getD (h .block) (length (h .block) - 1) 0 ≡ 0 → allThere (stations (h .block)) (factoryNet addresses) ≡ true →
+    judgedBody (bodyOf h tg) ≡ accepts → Accepted addresses tg)
+promised-by addresses tg net order request named last there verdict = record {
+  net = net;
+  head = reading Station tg .header;
+  order = λ i. record { finding = order i; header = reading Station tg .header };
+  fresh = record { request = request; first-named = named; last-zero = last };
+  there = there;
+  verdict = verdict;
+}
 
 pub worked-cases : WorkedCases
-unfolding placed fitted wordsOf bytesOf sent doubled xorOver checked checkByte frameOf framing against afterStore byteOf dataOf eventOf insideOf noRoom receiveOf restOf storeOf waitingOf feed tableLength placeOf exists mayWrite takes factory runExists runMayWrite runTakes writes reads isAddress has distinctAddresses stations zeroEnds around goodBlock first next rolled rollLeft rollRight addressBytes headerBytes headerLength telegramOf bodyOf mayBegin isMark markByte markIs withMark markAgrees remarked rolledLeft rolledRight asReply sentBack allowed functionAt goodFor judged standardReading extendedReading reading judgedRuns judgedBody afterWrites replyWith replyBody sending relayed relaying replied keptBy answering taking hearing handling
+unfolding placed fitted wordsOf bytesOf sent doubled xorOver checked checkByte frameOf framing against afterStore byteOf dataOf eventOf insideOf noRoom receiveOf restOf storeOf waitingOf feed tableLength placeOf exists mayWrite takes factory runExists runMayWrite runTakes writes reads isAddress has distinctAddresses stations zeroEnds around goodBlock first next rolled rollLeft rollRight addressBytes headerBytes headerLength telegramOf bodyOf mayBegin isMark markByte markIs withMark markAgrees remarked rolledLeft rolledRight asReply sentBack allowed functionAt goodFor judged standardReading extendedReading reading judgedRuns judgedBody afterWrites replyWith replyBody sending relayed relaying replied keptBy answering taking hearing handling rightTables goodNet isThere allThere tableAt withTable named addressee handler calling playing netOf tablesOf tablesFit setUp lastTelegram padded hexDigit hexBytes decimal line lines sentText endingText closing courseText
 worked-cases =
     refl also refl also refl also refl also refl also refl also refl also refl also refl also refl also refl also refl also refl also refl also refl also refl
-    also refl also refl also none
+    also refl also refl also travels-by _ _ refl refl _ _ _ refl refl refl refl
+    also tells-by _ _ refl refl _ refl
+    also promised-by _ _ refl refl refl suc-zero refl refl refl
+    also travels-by _ _ refl refl _ _ _ refl refl refl refl
+    also travels-by _ _ refl refl _ _ _ refl refl refl refl
+    also promised-by _ _ refl refl refl suc-zero refl refl refl
+    also none
