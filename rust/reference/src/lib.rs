@@ -12,4 +12,6 @@ pub mod net;
 pub mod refusal;
 pub mod registers;
 pub mod report;
+#[cfg(test)]
+mod samples;
 pub mod station;

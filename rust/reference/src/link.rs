@@ -169,6 +169,7 @@ pub fn receive(state: State, event: Event, buffer: &mut [u8]) -> (Answer, State)
 #[cfg(test)]
 mod tests {
     use super::*;
+    use crate::samples::Random;
 
     const FILL: u8 = 0xA5;
 
@@ -267,26 +268,13 @@ mod tests {
         receive(state, Event::Byte(*last), buffer)
     }
 
-    /// Xorshift; the seed must not be 0.
-    struct Random(u32);
-
-    impl Random {
-        fn next(&mut self) -> u32 {
-            self.0 ^= self.0 << 13;
-            self.0 ^= self.0 >> 17;
-            self.0 ^= self.0 << 5;
-            self.0
-        }
-
-        /// Any byte, with the control characters made frequent.
-        fn byte(&mut self) -> u8 {
-            let draw = self.next();
-            let [kind, which, value, _] = draw.to_be_bytes();
-            if kind < 0x60 {
-                [0x02, 0x03, 0x10, 0x15][usize::from(which % 4)]
-            } else {
-                value
-            }
+    /// Any byte, with the control characters made frequent.
+    fn any_byte(random: &mut Random) -> u8 {
+        let [kind, which, value, _] = random.next().to_be_bytes();
+        if kind < 0x60 {
+            [0x02, 0x03, 0x10, 0x15][usize::from(which % 4)]
+        } else {
+            value
         }
     }
 
@@ -689,7 +677,7 @@ mod tests {
     fn round_trip_of_every_length() {
         let mut random = Random(0x3964);
         for length in 0..=1024 {
-            let data: Vec<u8> = (0..length).map(|_| random.byte()).collect();
+            let data: Vec<u8> = (0..length).map(|_| any_byte(&mut random)).collect();
             let block = framed(&data);
             for spare in [0, 1, 40] {
                 let mut buffer = vec![FILL; length + spare];

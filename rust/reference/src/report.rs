@@ -55,21 +55,7 @@ fn line(number: usize, telegram: &[u8]) -> String {
 mod tests {
     use super::*;
     use crate::net::{dry_run, DryRun};
-
-    /// Nothing to read and nothing to write.
-    const IDLE: [u8; 6] = [0; 6];
-
-    /// A telegram in the short form.
-    fn short(function: u8, block: [u8; 4], body: &[u8]) -> Vec<u8> {
-        [&[function, 0xFF], &block[..], body].concat()
-    }
-
-    /// A telegram in the extended form.
-    fn long(function: u8, mark: u8, block: &[u8], body: &[u8]) -> Vec<u8> {
-        let count = u8::try_from(block.len()).expect("a count");
-        let front = [function, 0xFF, mark, 0xEF, 0xEF, 0xEF, count];
-        [&front[..], block, body].concat()
-    }
+    use crate::samples::{long, short, IDLE};
 
     // The program's net
 

@@ -123,6 +123,7 @@ fn carry_out(table: &mut Table, body: &[u8]) -> Result<Vec<u8>, u8> {
 mod tests {
     use super::*;
     use crate::registers::factory;
+    use crate::samples::{body, long, short, Random, IDLE};
 
     const FILL: u8 = 0xA5;
 
@@ -182,28 +183,6 @@ mod tests {
         first
     }
 
-    /// A request or reply in the short form.
-    fn short(function: u8, block: [u8; 4], body: &[u8]) -> Vec<u8> {
-        [&[function, 0xFF], &block[..], body].concat()
-    }
-
-    /// A request or reply in the extended form.
-    fn long(function: u8, mark: u8, block: &[u8], body: &[u8]) -> Vec<u8> {
-        let count = u8::try_from(block.len()).expect("a count");
-        let front = [function, 0xFF, mark, 0xEF, 0xEF, 0xEF, count];
-        [&front[..], block, body].concat()
-    }
-
-    /// A request's body; the write count is that of the values.
-    fn body(read: (u16, u8), start: u16, values: &[u16]) -> Vec<u8> {
-        let count = u8::try_from(values.len()).expect("a count");
-        let [read_high, read_low] = read.0.to_be_bytes();
-        let [write_high, write_low] = start.to_be_bytes();
-        let mut body = vec![read_high, read_low, read.1, write_high, write_low, count];
-        body.extend(values.iter().flat_map(|value| value.to_be_bytes()));
-        body
-    }
-
     /// A request to station 55 in the short form, without a relay.
     fn direct(body: &[u8]) -> Vec<u8> {
         short(0x60, [0x55, 0x00, 0x00, 0x00], body)
@@ -219,33 +198,9 @@ mod tests {
         silent(0x55, &direct(body))
     }
 
-    /// Nothing to read and nothing to write.
-    const IDLE: [u8; 6] = [0; 6];
-
     const NUMBERS: [u16; 18] = [
         2, 300, 931, 932, 933, 934, 935, 936, 952, 953, 955, 956, 957, 958, 959, 960, 961, 962,
     ];
-
-    /// Xorshift; the seed must not be 0.
-    struct Random(u32);
-
-    impl Random {
-        fn next(&mut self) -> u32 {
-            self.0 ^= self.0 << 13;
-            self.0 ^= self.0 >> 17;
-            self.0 ^= self.0 << 5;
-            self.0
-        }
-
-        /// A number below `limit`.
-        fn below(&mut self, limit: usize) -> usize {
-            (self.next() >> 3) as usize % limit
-        }
-
-        fn pick<T: Copy>(&mut self, from: &[T]) -> T {
-            from[self.below(from.len())]
-        }
-    }
 
     // Whole journeys
 
@@ -1153,35 +1108,9 @@ mod tests {
     fn what_holds_of_every_telegram() {
         let mut random = Random(0x0003_0964);
         let entries = [0x00, 0x00, 0x00, 0x01, 0x12, 0x55, 0xEF, 0xEF, 0xF0, 0xF1];
-        let starts = [0x0002, 0x012C, 0x03A3, 0x03B8, 0x03B9, 0x03BB, 0xFFFF];
         let mut kinds = [0; 14];
         for _ in 0..300_000 {
-            let mut telegram = vec![random.pick(&[0x60, 0x60, 0xE0, 0xE0, 0x61])];
-            telegram.push(random.next() as u8);
-            if random.below(2) == 0 {
-                telegram.push(random.pick(&[0x00, 0xEF]));
-                telegram.extend([0xEF; 3]);
-                let n = random.pick(&[0, 1, 2, 2, 3, 3, 4, 5, 32, 33, 255]);
-                telegram.push(n);
-                for _ in 0..n {
-                    telegram.push(random.pick(&entries));
-                }
-            } else {
-                for _ in 0..4 {
-                    telegram.push(random.pick(&entries));
-                }
-            }
-            let values: Vec<u16> = (0..random.below(4))
-                .map(|_| random.pick(&[0, 1, 2, 26, 65535]))
-                .collect();
-            let read = (random.pick(&starts), random.pick(&[0, 1, 2, 8]));
-            telegram.extend(body(read, random.pick(&starts), &values));
-            match random.below(8) {
-                0 => telegram.truncate(random.below(30)),
-                1 => telegram.push(0),
-                2 => telegram.resize(random.pick(&[1024, 1025]), 0),
-                _ => {}
-            }
+            let telegram = random.telegram(&[0x60, 0x60, 0xE0, 0xE0, 0x61], &entries);
 
             let own = random.pick(&[0x00, 0x01, 0x12, 0x12, 0x55, 0x55, 0xEF, 0xF0, 0xF1]);
             let room = random.pick(&[0, 8, 9, 10, 11, 12, 13, 14, 1024, 1024, 1024]);
