@@ -20,7 +20,8 @@ use Rattle.mop_station.proofs.Bodies.{accepted}
 use Rattle.mop_station.proofs.Answers.{length-values}
 use Rattle.journey.specs.Net.{Net, goodNet, isThere, allThere, tableAt, withTable}
 use Rattle.journey.specs.Journey.{Course}
-use Rattle.journey.specs.Demand3.{heard, thereAndBack, Written, destination, Accomplished}
+use Rattle.journey.specs.Terms.{heard, thereAndBack, Written, destination}
+use Rattle.journey.specs.Demand3.{Accomplished}
 use Rattle.journey.specs.Transmissions.{outward, relayedBlock, homeward, requestOn, allTelegrams}
 use Rattle.journey.proofs.Net.{good-table, there-parts}
 use Rattle.journey.proofs.Ring.{lastOf, last-at}

@@ -17,7 +17,7 @@ use Rattle.mop_header.specs.declared.Function.the-variants.{Reply}
 use Rattle.mop_header.proofs.Lengths.{headerRoom}
 use Rattle.journey.specs.Net.{Net, goodNet, isThere, allThere}
 use Rattle.journey.specs.Journey.{Ending, atZero, atNobody, refusedWith, Course, unheard, onward, callOutput, Journey}
-use Rattle.journey.specs.Demand3.{Heard, hears, heard, allOrdinary, allFine}
+use Rattle.journey.specs.Terms.{Heard, hears, heard, allOrdinary, allFine}
 use Rattle.journey.specs.Transmissions.{homeward}
 use Rattle.journey.proofs.Net.{there-parts, not-there}
 use Rattle.journey.proofs.Telegrams.{telegramFor, Faultless, reads-well, still-fine, heard-as, first-is}

@@ -20,7 +20,7 @@ use Rattle.mop_station.proofs.Bodies.{rejected-number}
 use Rattle.mop_station.proofs.Answers.{length-after, reply-bound}
 use Rattle.journey.specs.Net.{Net, goodNet, isThere, allThere, tableAt, withTable}
 use Rattle.journey.specs.Journey.{atZero, atNobody, refusedWith, Course, unheard, refusal, onward, callOutput, Journey}
-use Rattle.journey.specs.Demand3.{hears, heard, allOrdinary, allFine}
+use Rattle.journey.specs.Terms.{hears, heard, allOrdinary, allFine}
 use Rattle.journey.specs.Transmissions.{outward, relayedBlock, homeward}
 use Rattle.journey.proofs.Net.{table-same, all-there-with, good-with, good-table, there-parts, there-both, not-there}
 use Rattle.journey.proofs.Ring.{lastOf}

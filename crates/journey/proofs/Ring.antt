@@ -7,7 +7,7 @@ use native.Mathlib.Omega.{arith}
 use lib.ListN.{length, getD}
 use Rattle.mop_block.specs.Block.{stations, around, first}
 use Rattle.mop_block.specs.Zipper.{zeros, spread, Full, nil, cons}
-use Rattle.journey.specs.Demand3.{beforeZero, beforeZeros}
+use Rattle.journey.specs.Terms.{beforeZero, beforeZeros}
 
 -- the last entry of a list, 0 in an empty one
 abbrev pub lastOf : List ℕ → ℕ

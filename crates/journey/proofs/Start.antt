@@ -22,7 +22,7 @@ use Rattle.mop_header.proofs.ReadBack.{is-written}
 use Rattle.mop_station.specs.Body.{accepts, judgedBody}
 use Rattle.journey.specs.Net.{Net, goodNet, isThere, allThere, withTable}
 use Rattle.journey.specs.Journey.{Ending, atZero, atNobody, refusedWith, Course, unheard, onward, callOutput, Journey}
-use Rattle.journey.specs.Demand3.{m, Fresh, beforeZeros, allOrdinary, allFine}
+use Rattle.journey.specs.Terms.{m, Fresh, beforeZeros, allOrdinary, allFine}
 use Rattle.journey.proofs.Ring.{last-at, before-zeros, none-passed}
 use Rattle.journey.proofs.Telegrams.{telegramFor, length-read, Faultless, reads-well, still-fine, first-is}
 use Rattle.journey.proofs.Steps.{ends-zero, stop-nobody, hop-reply}

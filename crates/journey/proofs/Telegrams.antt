@@ -21,7 +21,7 @@ use Rattle.mop_header.proofs.Marks.{remarked-agrees, remarked-block, marked-twi
 use Rattle.mop_header.proofs.ReadBack.{reads-back, body-behind}
 use Rattle.mop_header.proofs.Writing.{length-telegram}
 use Rattle.mop_station.specs.Station.{replied}
-use Rattle.journey.specs.Demand3.{hears, heardIn, heard, isFine, allFine}
+use Rattle.journey.specs.Terms.{hears, heardIn, heard, isFine, allFine}
 
 -- a telegram with the mark that its block asks for
 abbrev pub telegramFor : Function → ℕ → Form → List ℕ → List ℕ → List ℕ

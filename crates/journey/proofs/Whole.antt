@@ -16,7 +16,8 @@ use Rattle.mop_header.proofs.Lengths.{sized-most}
 use Rattle.mop_header.proofs.ReadBack.{is-written, reading-fine}
 use Rattle.journey.specs.Net.{Net, goodNet, isThere, tableAt, withTable}
 use Rattle.journey.specs.Journey.{Ending, atNobody, refusedWith, Course, unheard, callOutput, Journey}
-use Rattle.journey.specs.Demand3.{m, beforeZeros, Demand3, TheJourney, EveryJourney}
+use Rattle.journey.specs.Terms.{m, beforeZeros}
+use Rattle.journey.specs.Demand3.{Demand3, TheJourney, EveryJourney}
 use Rattle.journey.specs.Transmissions.{ByteForByte}
 use Rattle.journey.specs.Bounded.{mostTransmissions, PlaysTheJourney}
 use Rattle.journey.proofs.Net.{table-other}

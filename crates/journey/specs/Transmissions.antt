@@ -12,7 +12,7 @@ use Rattle.mop_header.specs.declared.Reader.the-variants.{Station}
 use Rattle.mop_station.specs.Body.{accepts, judgedBody, replyBody}
 use Rattle.journey.specs.Net.{Net, goodNet, allThere, tableAt}
 use Rattle.journey.specs.Journey.{Course, Journey}
-use Rattle.journey.specs.Demand3.{m, Fresh, destination}
+use Rattle.journey.specs.Terms.{m, Fresh, destination}
 
 -- the blocks of so many requests on the way out, each rolled one place further left
 abbrev pub outward : ℕ → List ℕ → List (List ℕ)

@@ -21,7 +21,7 @@ use Rattle.mop_station.specs.Body.{accepts, judgedBody}
 use Rattle.mop_station.specs.Station.{sent, refuses, leaving, handling}
 use Rattle.journey.specs.Net.{Net, goodNet, allThere}
 use Rattle.journey.specs.Journey.{Ending, atZero, Course, Journey}
-use Rattle.journey.specs.Demand3.{Fresh}
+use Rattle.journey.specs.Terms.{Fresh}
 use Rattle.net.specs.Tables.{netOf, tablesOf}
 use Rattle.net.specs.DryRun.{played, leaves, lastTelegram, padded, dryRun}
 use Rattle.report.specs.Text.{codes}

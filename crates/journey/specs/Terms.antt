@@ -1,0 +1,86 @@
+-- The terms of demand 3.
+-- Assumes nothing.
+use Prim.Native.Nat.{ℕ, zero, suc, _+_, _-_, _<_}
+use mathlib.Core.Path.{_≡_}
+use mathlib.Core.Bool.{Bool, true, false, _&&_}
+use mathlib.Core.List.{List, [], _∷_, _++_, map, tail, reverse}
+use lib.Dec.{leb}
+use lib.ListN.{length, getD}
+use Rattle.registers.specs.Rows.{placeOf}
+use Rattle.mop_block.specs.Block.{stations, around, first}
+use Rattle.mop_header.specs.Header.{Head, bodyOf}
+use Rattle.mop_header.specs.Reading.{Finding, fine, fault, reading}
+use Rattle.mop_header.specs.declared.Function.{Function}
+use Rattle.mop_header.specs.declared.Function.the-variants.{Request, Reply}
+use Rattle.mop_header.specs.declared.Reader.the-variants.{Station}
+use Rattle.mop_station.specs.Body.{writeStart, valuesOf}
+use Rattle.mop_station.specs.Station.{Handled, sent, notMine, refuses}
+
+-- m, of a telegram without a fault in its header: the number of stations that its block names
+abbrev pub m : Head → ℕ
+m h = length (stations (h .block))
+
+-- "fresh": a request whose first block entry is not 00, and whose last one is
+pub record Fresh (h : Head) : Type 0 where
+  pub request : h .function ≡ Request
+  pub first-named : first (h .block) ≡ 0 → ⊥
+  pub last-zero : getD (h .block) (length (h .block) - 1) 0 ≡ 0
+
+-- the first station of a list that a 00 follows at once
+unfoldable pub beforeZero : List ℕ → ℕ
+beforeZero [] = 0
+beforeZero (x ∷ []) = 0
+beforeZero (zero ∷ y ∷ b) = beforeZero (y ∷ b)
+beforeZero (suc a ∷ zero ∷ b) = suc a
+beforeZero (suc a ∷ suc c ∷ b) = beforeZero (suc c ∷ b)
+
+-- the station before the block's 00s around the ring
+abbrev pub beforeZeros : List ℕ → ℕ
+beforeZeros b = beforeZero (around b)
+
+-- what is read off a transmission: request or reply, the first block entry, and the body
+pub data Heard : Type 0 where
+  hears : Function → ℕ → List ℕ → Heard
+  noise : Heard
+
+abbrev pub heardIn : Finding → Head → List ℕ → Heard
+heardIn fine h tg = hears (h .function) (first (h .block)) (bodyOf h tg)
+heardIn (fault k) h tg = noise
+
+abbrev pub heard : List ℕ → Heard
+heard tg = heardIn (reading Station tg .finding) (reading Station tg .header) tg
+
+-- out in order and back in reverse: requests with stations 1 to m first, then replies with stations m - 1 down to 1 first, and
+-- at last one with 00 first
+abbrev pub thereAndBack : List ℕ → List ℕ → List ℕ → List Heard
+thereAndBack route body reply =
+    map (λ (a : ℕ). hears Request a body) route ++ map (λ (a : ℕ). hears Reply a reply) (tail (reverse route) ++ (0 ∷ []))
+
+-- the table of a destination that carried out a body: the written values in order from the write start, all others as before
+pub record Written (body before after : List ℕ) : Type 0 where
+  pub holds : (i : ℕ) → i < length (valuesOf body) → getD after (placeOf (writeStart body + i)) 0 ≡ getD (valuesOf body) i 0
+  pub keeps : (j : ℕ) → ((i : ℕ) → i < length (valuesOf body) → j ≡ placeOf (writeStart body + i) → ⊥) → getD after j 0 ≡ getD before j 0
+  pub long : length after ≡ length before
+
+-- the destination of a fresh request: station m in block order
+abbrev pub destination : Head → ℕ
+destination h = getD (stations (h .block)) (m h - 1) 0
+
+-- what a called station may give in the journey of a telegram without a fault in its header: it sends, or refuses with 7 to 10
+abbrev pub ordinary : Handled → Bool
+ordinary (sent n) = true
+ordinary notMine = false
+ordinary (refuses k) = leb 7 k && leb k 10
+
+abbrev pub allOrdinary : List Handled → Bool
+allOrdinary [] = true
+allOrdinary (a ∷ rest) = ordinary a && allOrdinary rest
+
+-- whether telegrams are without a fault in their headers
+abbrev pub isFine : Finding → Bool
+isFine fine = true
+isFine (fault k) = false
+
+abbrev pub allFine : List (List ℕ) → Bool
+allFine [] = true
+allFine (tg ∷ rest) = isFine (reading Station tg .finding) && allFine rest
