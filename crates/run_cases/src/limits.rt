@@ -9,11 +9,11 @@ use refusal::WriteAnswer;
 // What buffers hold before a call.
 pub(crate) const BEFORE: u8 = 0xEE;
 
-// The first place, from n on, that is not as it was before; the length where there is none.
-pub(crate) fn first_change(s: &[u8], n: usize) -> usize {
+// The first place, from n on, that does not hold b; the length where there is none.
+pub(crate) fn first_other(s: &[u8], n: usize, b: u8) -> usize {
     let mut i = n;
     while i < s.len() {
-        if s[i] != BEFORE {
+        if s[i] != b {
             return i;
         }
         i += 1;
@@ -23,13 +23,13 @@ pub(crate) fn first_change(s: &[u8], n: usize) -> usize {
 
 // The place from n on that changed, if one did, and whether more did.
 pub(crate) fn show_changes(s: &[u8], n: usize) {
-    let at = first_change(s, n);
+    let at = first_other(s, n, BEFORE);
     if at < s.len() {
         show::text(b", place");
         show::number(at);
         show::text(b" is");
         show::byte(s[at]);
-        if first_change(s, at + 1) < s.len() {
+        if first_other(s, at + 1, BEFORE) < s.len() {
             show::text(b", and more changed\n");
             return;
         }

@@ -1,8 +1,10 @@
 // What is only run. Without an argument: the calls at their limits, and the receiving half's table row by row.
-// `play` frames standard input and feeds the frame back; `listen` feeds standard input to a receiving half; `station`
-// makes the calls of a station that standard input lists.
+// `frame` frames standard input and feeds the frame back; `listen` feeds standard input to a receiving half; `station`
+// makes the calls of a station that standard input lists, and `net` the dry runs.
 mod limits;
 mod link;
+mod net_limits;
+mod nets;
 mod show;
 mod station;
 mod station_limits;
@@ -25,7 +27,7 @@ fn main() {
         link::listen();
         return;
     }
-    if m == b'p' {
+    if m == b'f' {
         // One byte more than a block holds shows that the data is too long.
         let mut input = [0u8; 1025];
         let n = io::read_full(STDIN_FILENO, &mut input);
@@ -36,6 +38,10 @@ fn main() {
         station::make_calls();
         return;
     }
+    if m == b'n' {
+        nets::make_runs();
+        return;
+    }
     limits::frames();
     limits::events();
     station_limits::setups();
@@ -44,4 +50,7 @@ fn main() {
     station_limits::outputs();
     station_limits::bodies();
     station_limits::reads();
+    net_limits::setups();
+    net_limits::counts();
+    net_limits::orders();
 }

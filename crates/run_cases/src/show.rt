@@ -7,6 +7,8 @@ use link_receive::LinkState;
 use link_receive::LinkStep;
 use link_receive::Phase;
 use mop_station::StationAnswer;
+use net::DryRunAnswer;
+use net::JourneyEnd;
 use refusal::Refusal;
 
 pub(crate) fn text(s: &[u8]) {
@@ -49,26 +51,33 @@ pub(crate) fn line(s: &[u8]) {
 }
 
 // A two-byte number in four hex digits, after a space.
-fn word(n: u16) {
+fn word(n: u16) -> [u8; 5] {
     let high = (n / 256) as u8;
     let low = (n % 256) as u8;
-    text(
-        &[
-            b' ',
-            hex_digit(high / 16),
-            hex_digit(high),
-            hex_digit(low / 16),
-            hex_digit(low),
-        ],
-    );
+    [
+        b' ',
+        hex_digit(high / 16),
+        hex_digit(high),
+        hex_digit(low / 16),
+        hex_digit(low),
+    ]
 }
 
+// The numbers, sixty at a time.
 pub(crate) fn words(s: &[u16]) {
+    let mut digits = [0u8; 300];
+    let mut n: usize = 0;
     let mut i: usize = 0;
     while i < s.len() {
-        word(s[i]);
+        places::put(&word(s[i]), &mut digits, n);
+        n += 5;
         i += 1;
+        if 295 < n {
+            text(&digits[0..n]);
+            n = 0;
+        }
     }
+    text(&digits[0..n]);
 }
 
 // A number, after a space.
@@ -137,6 +146,34 @@ pub(crate) fn station_answer(a: StationAnswer) {
         }
         StationAnswer::NotMine => text(b"not mine"),
         StationAnswer::Refused(r) => {
+            text(b"refused");
+            number(r.number() as usize);
+        }
+    }
+}
+
+fn journey_end(e: JourneyEnd) {
+    match e {
+        JourneyEnd::AtZero => text(b", at 00"),
+        JourneyEnd::AtNobody => text(b", at nobody"),
+        JourneyEnd::Refused(r) => {
+            text(b",");
+            refusal(r);
+        }
+    }
+}
+
+// The answer of a dry run: the transmissions, how the journey ended, and the length of the last telegram.
+pub(crate) fn run_answer(a: DryRunAnswer) {
+    match a {
+        DryRunAnswer::Played(count, end, n) => {
+            text(b"played");
+            number(count);
+            journey_end(end);
+            text(b", length");
+            number(n);
+        }
+        DryRunAnswer::Refused(r) => {
             text(b"refused");
             number(r.number() as usize);
         }

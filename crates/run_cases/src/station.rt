@@ -10,7 +10,7 @@ use registers::TABLE_LENGTH;
 pub(crate) const PLACES: usize = 20;
 
 // The most places of an output, and the most bytes of a telegram, in a listed call.
-const MOST: usize = 1100;
+pub(crate) const MOST: usize = 1100;
 
 // A table as it leaves the factory, with two places more.
 pub(crate) fn factory_table() -> [u16; PLACES] {
@@ -24,19 +24,19 @@ pub(crate) fn factory_table() -> [u16; PLACES] {
     table
 }
 
-// Whether two tables have the same values.
-pub(crate) fn same_values(a: &[u16], b: &[u16]) -> bool {
+// The first place, from n on, where two tables of the same length differ; the length where there is none.
+pub(crate) fn first_difference(a: &[u16], b: &[u16], n: usize) -> usize {
     if a.len() != b.len() {
-        return false;
+        return 0;
     }
-    let mut i: usize = 0;
+    let mut i = n;
     while i < a.len() {
         if a[i] != b[i] {
-            return false;
+            return i;
         }
         i += 1;
     }
-    true
+    a.len()
 }
 
 // The call with so many places of the table and of the output. Where there are fewer, no call is made, and the answer is
@@ -60,7 +60,7 @@ pub(crate) fn call(
 
 // Says if the output, from n on, is not as it was before the call.
 fn show_behind(out: &[u8], n: usize) {
-    if limits::first_change(out, n) < out.len() {
+    if limits::first_other(out, n, BEFORE) < out.len() {
         show::text(b", output changed behind");
     }
 }
@@ -81,7 +81,7 @@ pub(crate) fn show_answer(answer: StationAnswer, out: &[u8]) {
     }
 }
 
-fn bad_list() -> bool {
+pub(crate) fn bad_list() -> bool {
     show::text(b"bad list\n");
     false
 }
@@ -115,7 +115,7 @@ fn take_call(
 }
 
 // A two-byte number.
-fn number_of(high: u8, low: u8) -> usize {
+pub(crate) fn number_of(high: u8, low: u8) -> usize {
     high as usize * 256 + low as usize
 }
 
@@ -138,7 +138,7 @@ fn next_call(table: &mut [u16]) -> bool {
 
 // The registers, if one changed, and the end of the line.
 fn show_registers(before: &[u16], table: &[u16]) {
-    if !same_values(before, table) {
+    if first_difference(before, table, 0) < table.len() {
         show::text(b", registers");
         show::words(table);
     }

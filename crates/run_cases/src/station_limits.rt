@@ -6,20 +6,18 @@ use crate::station;
 use crate::station::PLACES;
 use mop_station::StationAnswer;
 
-// The first bytes of a telegram.
-fn show_start(telegram: &[u8]) {
-    if telegram.len() <= 16 {
-        show::bytes(telegram);
+// The bytes, or the first of them where there are more than so many.
+pub(crate) fn show_start(bytes: &[u8], most: usize) {
+    if bytes.len() <= most {
+        show::bytes(bytes);
         return;
     }
-    show::bytes(&telegram[0..16]);
+    show::bytes(&bytes[0..most]);
     show::text(b" ..");
 }
 
-// What is called.
-fn show_call(own: u8, lent: usize, telegram: &[u8], places: usize) {
-    show::text(b"own");
-    show::number(own as usize);
+// The places lent, and the telegram.
+pub(crate) fn show_lent(lent: usize, telegram: &[u8], places: usize) {
     show::text(b", table");
     show::number(lent);
     show::text(b", output");
@@ -27,17 +25,24 @@ fn show_call(own: u8, lent: usize, telegram: &[u8], places: usize) {
     show::text(b", length");
     show::number(telegram.len());
     show::text(b", telegram");
-    show_start(telegram);
+    show_start(telegram, 16);
     show::text(b": ");
 }
 
-// Whether the table is still as it was before.
-fn show_registers(before: &[u16], table: &[u16]) {
-    if station::same_values(before, table) {
-        show::text(b", registers kept");
+// The place of the table that changed, if one did, and whether more did.
+pub(crate) fn show_registers(before: &[u16], table: &[u16]) {
+    let at = station::first_difference(before, table, 0);
+    if at < table.len() {
+        show::text(b", table place");
+        show::number(at);
+        show::text(b" is");
+        show::words(&table[at..at + 1]);
+        if station::first_difference(before, table, at + 1) < table.len() {
+            show::text(b" and more changed");
+        }
         return;
     }
-    show::text(b", registers changed");
+    show::text(b", registers kept");
 }
 
 // The place of the output behind what was sent.
@@ -54,7 +59,9 @@ fn call(own: u8, lent: usize, telegram: &[u8], places: usize) {
     let before = station::factory_table();
     let mut table = before;
     let mut out = [BEFORE; 1025];
-    show_call(own, lent, telegram, places);
+    show::text(b"own");
+    show::number(own as usize);
+    show_lent(lent, telegram, places);
     let answer = station::call(own, &mut table, lent, telegram, &mut out, places);
     show::station_answer(answer);
     show_registers(&before, &table);
@@ -69,7 +76,7 @@ fn call_55(telegram: &[u8], n: usize, places: usize) {
 }
 
 // A request with two entries, and 00s behind them: its first 12 bytes ask for nothing.
-fn request(first: u8, second: u8) -> [u8; 1025] {
+pub(crate) fn request(first: u8, second: u8) -> [u8; 1025] {
     let mut t = [0u8; 1025];
     t[0] = 0x60;
     t[1] = 0xFF;
@@ -116,7 +123,7 @@ fn relay_case(n: usize, places: usize) {
 }
 
 // A request to station 55 with two runs. The first value to write is 1, and the others are 0.
-fn runs(rstart: u16, reads: u8, wstart: u16, writes: u8) -> [u8; 1025] {
+pub(crate) fn runs(rstart: u16, reads: u8, wstart: u16, writes: u8) -> [u8; 1025] {
     let mut t = request(0x55, 0);
     t[6] = (rstart / 256) as u8;
     t[7] = (rstart % 256) as u8;

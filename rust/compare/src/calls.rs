@@ -1,14 +1,11 @@
-//! Calls of a station, and the list of them that the program reads.
+//! Calls of a station.
 
+use crate::listed::{number, two, Listed, BEFORE, MOST};
 use reference::registers::{factory, COUNT};
 use reference::station::{handle, Answer};
 
 /// Places of the one table that all calls of a list use.
 pub const TABLE: usize = 20;
-/// Most places of an output, and most bytes of a telegram, in a list.
-pub const MOST: usize = 1100;
-/// What the output holds before a call.
-pub const BEFORE: u8 = 0xEE;
 /// What the table holds behind the station's registers.
 const BEHIND: u16 = 0xEEEE;
 
@@ -23,39 +20,41 @@ pub struct Call {
     pub telegram: Vec<u8>,
 }
 
-/// The bytes of a list.
-pub fn encode(calls: &[Call]) -> Vec<u8> {
-    let two = |number: usize| [(number / 256) as u8, (number % 256) as u8];
-    let mut bytes = Vec::new();
-    for call in calls {
-        bytes.extend([call.own, call.places as u8]);
-        bytes.extend(two(call.room));
-        bytes.extend(two(call.telegram.len()));
-        bytes.extend(&call.telegram);
+impl Listed for Call {
+    fn encode(&self) -> Vec<u8> {
+        let mut bytes = vec![self.own, self.places as u8];
+        bytes.extend(two(self.room));
+        bytes.extend(two(self.telegram.len()));
+        bytes.extend(&self.telegram);
+        bytes
     }
-    bytes
-}
 
-/// The calls of a list up to its first fault, and whether it has none.
-pub fn decode(mut bytes: &[u8]) -> (Vec<Call>, bool) {
-    let mut calls = Vec::new();
-    while let [own, places, a, b, c, d, rest @ ..] = bytes {
-        let room = usize::from(u16::from_be_bytes([*a, *b]));
-        let length = usize::from(u16::from_be_bytes([*c, *d]));
-        let places = usize::from(*places);
-        if places > TABLE || room > MOST || length > MOST || length > rest.len() {
-            return (calls, false);
+    fn decode(bytes: &[u8]) -> Option<(Call, &[u8])> {
+        let &[own, places, a, b, c, d, ref rest @ ..] = bytes else {
+            return None;
+        };
+        let (places, room, length) = (usize::from(places), number(a, b), number(c, d));
+        if places > TABLE || room > MOST || length > MOST {
+            return None;
         }
-        let (telegram, rest) = rest.split_at(length);
-        calls.push(Call {
-            own: *own,
+        let (telegram, rest) = rest.split_at_checked(length)?;
+        let telegram = telegram.to_vec();
+        let call = Call {
+            own,
             places,
             room,
-            telegram: telegram.to_vec(),
-        });
-        bytes = rest;
+            telegram,
+        };
+        Some((call, rest))
     }
-    (calls, bytes.is_empty())
+
+    fn telegram(&mut self) -> &mut Vec<u8> {
+        &mut self.telegram
+    }
+
+    fn without(&self, _: usize) -> Option<Call> {
+        None
+    }
 }
 
 /// The table that calls are made with, one after the other.
@@ -91,6 +90,7 @@ impl Bank {
 #[cfg(test)]
 mod tests {
     use super::*;
+    use crate::listed::{decode, encode};
 
     #[test]
     fn lists() {
@@ -110,10 +110,10 @@ mod tests {
         let bytes = encode(&calls);
         assert_eq!(bytes[..9], [0x55, 18, 1, 2, 0, 3, 0x60, 0xFF, 0x55]);
         assert_eq!(decode(&bytes), (calls.to_vec(), true));
-        assert_eq!(decode(&[]), (vec![], true));
+        assert_eq!(decode::<Call>(&[]), (vec![], true));
         // Cut anywhere else than between two calls, a list is bad.
         for length in 1..bytes.len() {
-            let (read, good) = decode(&bytes[..length]);
+            let (read, good) = decode::<Call>(&bytes[..length]);
             assert_eq!(read, calls[..usize::from(length >= 9)]);
             assert_eq!(good, length == 9);
         }

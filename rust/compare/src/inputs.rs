@@ -8,11 +8,15 @@ pub enum Mode {
     /// Show the calls at their limits; the input is not read.
     Limits,
     /// Frame the input, and feed the frame back.
-    Play,
+    Frame,
     /// Feed the input to a receiving half at rest.
     Listen,
     /// Make the calls of a station that the input lists.
     Station,
+    /// Make the dry runs that the input lists.
+    Net,
+    /// Play the input; this is the other program, which does nothing else.
+    Program,
 }
 
 /// One run of the program.
@@ -102,7 +106,7 @@ pub fn framing(random: &mut Random) -> Vec<Case> {
             let piece = length.div_ceil(pieces).max(1);
             cases.push(Case {
                 name: format!("{length} bytes ({name}) in pieces of {piece}"),
-                mode: Mode::Play,
+                mode: Mode::Frame,
                 input: random.fill(length, filling),
                 piece,
             });

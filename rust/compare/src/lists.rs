@@ -1,9 +1,10 @@
 //! Lists of calls of a station, made from a seed.
 
-use crate::calls::{encode, Bank, Call, MOST, TABLE};
+use crate::calls::{Bank, Call, TABLE};
 use crate::inputs::{Case, Mode, Random};
-use crate::telegrams::{all_runs, body, first_entry, forms, mark_of, marked, row, telegram};
-use crate::telegrams::{writable_runs, FUNCTIONS, REPLY, REQUEST};
+use crate::listed::{encode, MOST};
+use crate::telegrams::{all_runs, body, faulty_bodies, first_entry, forms, mark_of, marked};
+use crate::telegrams::{row, telegram, writable_runs, FUNCTIONS, REPLY, REQUEST};
 use reference::registers::{COUNT, ROWS};
 
 /// The station of the calls that need no more than one.
@@ -339,32 +340,13 @@ fn bad_values(random: &mut Random) -> Vec<Call> {
 
 /// None, one or several of a destination's refusals, in every combination.
 fn faults() -> Vec<Call> {
-    let reads = [(955, 8), (953, 2), (0, 1), (65535, 0), (65535, 2)];
-    let writes: [(u16, &[u16]); 9] = [
-        (0, &[]),
-        (952, &[1440, 25]),
-        (952, &[1440, 26]),
-        (952, &[0, 25]),
-        (953, &[26, 0]),
-        (931, &[0, 0]),
-        (935, &[0, 0, 0]),
-        (936, &[65535]),
-        (65535, &[1, 1]),
-    ];
     let mut calls = Vec::new();
-    for read in reads {
-        for (start, values) in writes {
-            let mut bytes = body(read, start, values);
-            let right = bytes.len();
-            bytes.push(0);
-            for length in [right - 1, right, right + 1] {
-                for room in [0, 8, 9, 24, 25, MOST] {
-                    calls.push(Call {
-                        room,
-                        ..direct(&bytes[..length])
-                    });
-                }
-            }
+    for body in faulty_bodies() {
+        for room in [0, 8, 9, 24, 25, MOST] {
+            calls.push(Call {
+                room,
+                ..direct(&body)
+            });
         }
     }
     calls

@@ -1,18 +1,25 @@
-//! `compare PROGRAM [SEED]` runs the proved program `run_cases` on many inputs
-//! and compares what it prints with what the reference says, byte for byte.
+//! `compare RUN_CASES DRY_RUN [SEED]` runs the two proved programs on many inputs
+//! and compares what they print with what the reference says, byte for byte.
 
 #![forbid(unsafe_code)]
 
 mod calls;
 mod inputs;
 mod limits;
+mod listed;
 mod lists;
+mod nets;
+mod program;
 mod run;
+mod runs;
 mod telegrams;
 mod text;
 
+use calls::Call;
 use inputs::{Case, Mode, Random};
 use run::{run, shrink, shrink_list};
+use runs::Run;
+use std::collections::BTreeSet;
 use std::error::Error;
 use std::io;
 use std::process::ExitCode;
@@ -21,24 +28,31 @@ use text::{expected, hex, Tally, KINDS};
 /// Most runs that are spent on making a failing input smaller.
 const TRIES: u32 = 400;
 
+/// Most transmissions of a journey.
+const MOST_TRANSMISSIONS: usize = 62;
+
 fn main() -> Result<ExitCode, Box<dyn Error>> {
     let args: Vec<String> = std::env::args().collect();
-    let (program, seed) = match &args[1..] {
-        [program] => (program, 3964),
-        [program, seed] => (program, seed.parse()?),
-        _ => return Err("usage: compare PROGRAM [SEED]".into()),
+    let (run_cases, dry_run, seed) = match &args[1..] {
+        [run_cases, dry_run] => (run_cases, dry_run, 3964),
+        [run_cases, dry_run, seed] => (run_cases, dry_run, seed.parse()?),
+        _ => return Err("usage: compare RUN_CASES DRY_RUN [SEED]".into()),
     };
     println!("seed {seed}");
     let mut random = Random::new(seed);
-    let mut tally = Tally::new();
+    let mut tally = Tally::default();
     let limits = inputs::limits();
     let framing = inputs::framing(&mut random);
     let listening = inputs::listening(&mut random);
     let stations = lists::lists(&mut random);
-    let right = compare(program, "limits", &limits, &mut tally)?
-        && compare(program, "framing", &framing, &mut tally)?
-        && compare(program, "listening", &listening, &mut tally)?
-        && compare(program, "stations", &stations, &mut tally)?
+    let nets = nets::lists(&mut random);
+    let played = program::cases(&mut random);
+    let right = compare(run_cases, "limits", &limits, &mut tally)?
+        && compare(run_cases, "framing", &framing, &mut tally)?
+        && compare(run_cases, "listening", &listening, &mut tally)?
+        && compare(run_cases, "stations", &stations, &mut tally)?
+        && compare(run_cases, "nets", &nets, &mut tally)?
+        && compare(dry_run, "program", &played, &mut tally)?
         && all_reached(&tally);
     Ok(if right {
         ExitCode::SUCCESS
@@ -63,10 +77,8 @@ fn compare(program: &str, part: &str, cases: &[Case], tally: &mut Tally) -> io::
         }
         offered += case.input.len();
         printed += text.len();
-        for (kind, count) in expected.tally {
-            *tally.entry(kind).or_default() += count;
-            answers += count;
-        }
+        answers += expected.tally.answers();
+        tally.add(expected.tally);
     }
     println!(
         "{part}: {} processes, {offered} bytes on standard input",
@@ -93,7 +105,8 @@ fn report(program: &str, case: &Case, right: &str, wrong: &[u8]) {
     };
     let mut tries = TRIES;
     let smallest = match case.mode {
-        Mode::Station => shrink_list(&case.input, &mut tries, fails),
+        Mode::Station => shrink_list::<Call>(&case.input, &mut tries, fails),
+        Mode::Net => shrink_list::<Run>(&case.input, &mut tries, fails),
         _ => shrink(&case.input, &mut tries, fails),
     };
     println!("smallest failing input found, {} bytes:", smallest.len());
@@ -102,15 +115,25 @@ fn report(program: &str, case: &Case, right: &str, wrong: &[u8]) {
 
 /// Prints how often each kind of answer was reached.
 fn all_reached(tally: &Tally) -> bool {
-    let answers: u64 = tally.values().sum();
-    println!("answers, to data framed, to an event or to a station's call: {answers}");
-    for (kind, count) in tally {
+    println!(
+        "answers, to data framed, to an event, a station's call, a dry run or a telegram played: {}",
+        tally.answers()
+    );
+    for (kind, count) in &tally.kinds {
         println!("  reached {count:>8} times: {kind}");
     }
     let mut missing = KINDS.to_vec();
-    missing.retain(|kind| !tally.contains_key(kind));
+    missing.retain(|kind| !tally.kinds.contains_key(kind));
     for kind in &missing {
         println!("  NEVER reached: {kind}");
     }
-    missing.is_empty()
+    let every: BTreeSet<usize> = (1..=MOST_TRANSMISSIONS).collect();
+    let numbers = tally.transmissions == every;
+    if numbers {
+        println!("dry runs had every number of transmissions from 1 to {MOST_TRANSMISSIONS}");
+    } else {
+        let reached = &tally.transmissions;
+        println!("dry runs had only these numbers of transmissions: {reached:?}");
+    }
+    missing.is_empty() && numbers
 }

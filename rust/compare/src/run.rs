@@ -1,7 +1,7 @@
-//! Runs the program, and makes a failing input smaller.
+//! Runs a program, and makes a failing input smaller.
 
-use crate::calls::{decode, encode};
 use crate::inputs::{Case, Mode};
+use crate::listed::{decode, encode, Listed};
 use std::io::{self, Read, Write};
 use std::process::{ChildStdin, Command, Stdio};
 use std::thread::{scope, sleep};
@@ -14,10 +14,11 @@ const PAUSE: Duration = Duration::from_millis(10);
 pub fn run(program: &str, case: &Case) -> io::Result<Vec<u8>> {
     let mut child = Command::new(program)
         .args(match case.mode {
-            Mode::Limits => None,
-            Mode::Play => Some("play"),
+            Mode::Limits | Mode::Program => None,
+            Mode::Frame => Some("frame"),
             Mode::Listen => Some("listen"),
             Mode::Station => Some("station"),
+            Mode::Net => Some("net"),
         })
         .stdin(Stdio::piped())
         .stdout(Stdio::piped())
@@ -73,28 +74,50 @@ pub fn shrink<T: Clone>(
     best
 }
 
-/// Drops whole calls, then bytes of the telegrams that are left.
-pub fn shrink_list(input: &[u8], tries: &mut u32, mut fails: impl FnMut(&[u8]) -> bool) -> Vec<u8> {
-    let (calls, good) = decode(input);
+/// Drops whole items of a list, then bytes of the telegrams that are left, then stations.
+pub fn shrink_list<T: Listed>(
+    input: &[u8],
+    tries: &mut u32,
+    mut fails: impl FnMut(&[u8]) -> bool,
+) -> Vec<u8> {
+    let (items, good) = decode::<T>(input);
     if !good {
         return shrink(input, tries, fails);
     }
-    let mut calls = shrink(&calls, tries, |calls| fails(&encode(calls)));
-    for i in 0..calls.len() {
-        let telegram = calls[i].telegram.clone();
-        calls[i].telegram = shrink(&telegram, tries, |bytes| {
-            let mut calls = calls.clone();
-            calls[i].telegram = bytes.to_vec();
-            fails(&encode(&calls))
+    let mut items = shrink(&items, tries, |items| fails(&encode(items)));
+    let with = |items: &[T], i: usize, item: T| {
+        let mut items = items.to_vec();
+        items[i] = item;
+        items
+    };
+    for i in 0..items.len() {
+        let mut item = items[i].clone();
+        let telegram = item.telegram().clone();
+        *item.telegram() = shrink(&telegram, tries, |bytes| {
+            let mut item = items[i].clone();
+            *item.telegram() = bytes.to_vec();
+            fails(&encode(&with(&items, i, item)))
         });
+        items = with(&items, i, item);
+        let mut station = 0;
+        while let Some(item) = items[i].without(station).filter(|_| *tries > 0) {
+            *tries -= 1;
+            let fewer = with(&items, i, item);
+            if fails(&encode(&fewer)) {
+                items = fewer;
+            } else {
+                station += 1;
+            }
+        }
     }
-    encode(&calls)
+    encode(&items)
 }
 
 #[cfg(test)]
 mod tests {
     use super::*;
     use crate::calls::Call;
+    use crate::runs::Run;
 
     #[test]
     fn shrinks_to_what_fails() {
@@ -115,12 +138,32 @@ mod tests {
         };
         let calls: Vec<Call> = (0..100).map(|own| call(own, &[1, own, 3])).collect();
         let fails = |list: &[u8]| {
-            let (calls, good) = decode(list);
+            let (calls, good) = decode::<Call>(list);
             let has = |own| calls.iter().any(|call| call.telegram.contains(&own));
             good && has(40) && has(70)
         };
         let smallest = [call(40, &[40]), call(70, &[70])];
-        let shrunk = shrink_list(&encode(&calls), &mut 400, fails);
+        let shrunk = shrink_list::<Call>(&encode(&calls), &mut 400, fails);
         assert_eq!(decode(&shrunk), (smallest.to_vec(), true));
+    }
+
+    #[test]
+    fn shrinks_a_net() {
+        let run = |addresses: &[u8], telegram: &[u8]| Run {
+            addresses: addresses.to_vec(),
+            tables: vec![1; 18 * addresses.len()],
+            telegram: telegram.to_vec(),
+            room: 9,
+        };
+        let runs = [run(&[1, 2, 3, 4], &[5, 6, 7]), run(&[3, 2, 1], &[6])];
+        let fails = |list: &[u8]| {
+            let (runs, good) = decode::<Run>(list);
+            good && runs.iter().any(|run| {
+                let fits = run.tables.len() == 18 * run.addresses.len();
+                fits && run.addresses.contains(&4) && run.telegram.contains(&6)
+            })
+        };
+        let shrunk = shrink_list::<Run>(&encode(&runs), &mut 400, fails);
+        assert_eq!(decode(&shrunk), (vec![run(&[4], &[6])], true));
     }
 }

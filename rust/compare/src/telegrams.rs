@@ -86,6 +86,32 @@ pub fn writable_runs() -> Vec<(u16, u8)> {
     runs
 }
 
+/// Bodies with none, one or several of a destination's refusals, in every combination.
+pub fn faulty_bodies() -> Vec<Vec<u8>> {
+    let reads = [(955, 8), (953, 2), (0, 1), (65535, 0), (65535, 2)];
+    let writes: [(u16, &[u16]); 9] = [
+        (0, &[]),
+        (952, &[1440, 25]),
+        (952, &[1440, 26]),
+        (952, &[0, 25]),
+        (953, &[26, 0]),
+        (931, &[0, 0]),
+        (935, &[0, 0, 0]),
+        (936, &[65535]),
+        (65535, &[1, 1]),
+    ];
+    let mut bodies = Vec::new();
+    for read in reads {
+        for (start, values) in writes {
+            let mut bytes = body(read, start, values);
+            let right = bytes.len();
+            bytes.push(0);
+            bodies.extend([right - 1, right, right + 1].map(|length| bytes[..length].to_vec()));
+        }
+    }
+    bodies
+}
+
 impl Random {
     pub fn pick<T: Copy>(&mut self, from: &[T]) -> T {
         from[self.below(from.len())]
@@ -205,13 +231,18 @@ impl Random {
         }
     }
 
-    /// A telegram with a good header.
-    pub fn some_telegram(&mut self) -> Vec<u8> {
-        let (extended, entries) = match self.below(4) {
+    /// Whether a telegram is extended, and how many entries its block has.
+    pub fn some_form(&mut self) -> (bool, usize) {
+        match self.below(4) {
             0 | 1 => (false, 4),
             2 => (true, 2 + self.below(7)),
             _ => (true, 2 + self.below(31)),
-        };
+        }
+    }
+
+    /// A telegram with a good header.
+    pub fn some_telegram(&mut self) -> Vec<u8> {
+        let (extended, entries) = self.some_form();
         let function = self.pick(&[REQUEST, REQUEST, REPLY]);
         let block = self.some_block(entries);
         let mut telegram = telegram(function, extended, &block, &self.some_body());

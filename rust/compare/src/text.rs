@@ -1,17 +1,22 @@
-//! The text that the program must print, by the reference.
+//! The texts that the programs must print, by the reference.
 
-use crate::calls::{decode, Bank, Call, BEFORE};
+use crate::calls::{Bank, Call};
 use crate::inputs::{Case, Mode};
 use crate::limits;
+use crate::listed::{decode, BEFORE};
+use crate::runs::Run;
 use crate::telegrams::is_extended;
+use reference::header::{is_address, MAX_TELEGRAM};
 use reference::link::{frame, receive, Answer, Event, Phase, State};
 use reference::link::{DLE, MAX_DATA, NAK, STX};
+use reference::net::{DryRun, Ending, MAX_STATIONS};
 use reference::refusal::{BAD_SETUP, OUTPUT_TOO_SHORT, TOO_LONG};
-use reference::station;
-use std::collections::BTreeMap;
+use reference::{report, station};
+use std::collections::{BTreeMap, BTreeSet};
+use std::fmt::Write;
 
 /// The kinds of answer that a run must reach.
-pub const KINDS: [&str; 42] = [
+pub const KINDS: [&str; 75] = [
     "frame written",
     "refused 11",
     "refused 12",
@@ -54,10 +59,66 @@ pub const KINDS: [&str; 42] = [
     "station: refused 11, relay",
     "station: refused 11, destination",
     "station: refused 12",
+    "net: ended at 00, 1 transmission",
+    "net: ended at 00, 2 to 31 transmissions",
+    "net: ended at 00, 32 to 61 transmissions",
+    "net: ended at 00, 62 transmissions",
+    "net: ended at nobody, 1 transmission",
+    "net: ended at nobody, 2 to 31 transmissions",
+    "net: ended at nobody, 32 to 60 transmissions",
+    "net: ended with refusal 7",
+    "net: ended with refusal 8",
+    "net: ended with refusal 9",
+    "net: ended with refusal 10",
+    "net: refused 1, too many stations",
+    "net: refused 1, an address out of range",
+    "net: refused 1, an address twice",
+    "net: refused 1, tables",
+    "net: refused 2",
+    "net: refused 3",
+    "net: refused 4",
+    "net: refused 5",
+    "net: refused 6",
+    "net: refused 11",
+    "net: refused 12",
+    "program: sent",
+    "program: sent, refused 7",
+    "program: sent, refused 8",
+    "program: sent, refused 9",
+    "program: sent, refused 10",
+    "program: refused 2",
+    "program: refused 3",
+    "program: refused 4",
+    "program: refused 5",
+    "program: refused 6",
+    "program: refused 12",
 ];
 
-/// How often each kind of answer came.
-pub type Tally = BTreeMap<&'static str, u64>;
+/// What a run must reach.
+#[derive(Default)]
+pub struct Tally {
+    /// How often each kind of answer came.
+    pub kinds: BTreeMap<&'static str, u64>,
+    /// The numbers of transmissions that the journeys of dry runs had.
+    pub transmissions: BTreeSet<usize>,
+}
+
+impl Tally {
+    fn count(&mut self, kind: &'static str) {
+        *self.kinds.entry(kind).or_default() += 1;
+    }
+
+    pub fn answers(&self) -> u64 {
+        self.kinds.values().sum()
+    }
+
+    pub fn add(&mut self, other: Tally) {
+        for (kind, count) in other.kinds {
+            *self.kinds.entry(kind).or_default() += count;
+        }
+        self.transmissions.extend(other.transmissions);
+    }
+}
 
 /// A text, and the kinds of answer in it.
 #[derive(Default)]
@@ -68,24 +129,47 @@ pub struct Expected {
 
 /// Each byte in two hex digits after a space.
 pub fn hex(bytes: &[u8]) -> String {
-    bytes.iter().map(|byte| format!(" {byte:02X}")).collect()
+    let mut text = String::with_capacity(3 * bytes.len());
+    for byte in bytes {
+        write!(text, " {byte:02X}").expect("a string takes all");
+    }
+    text
 }
 
-/// What the program must print in a case.
+/// Each number in four hex digits after a space.
+fn words(values: &[u16]) -> String {
+    let mut text = String::with_capacity(5 * values.len());
+    for value in values {
+        write!(text, " {value:04X}").expect("a string takes all");
+    }
+    text
+}
+
+/// The bytes, or the first of them where there are more than so many.
+fn start(bytes: &[u8], most: usize) -> String {
+    match bytes.get(..most) {
+        Some(start) if bytes.len() > most => hex(start) + " ..",
+        _ => hex(bytes),
+    }
+}
+
+/// What must be printed in a case.
 pub fn expected(case: &Case) -> Expected {
     let mut expected = Expected::default();
     match case.mode {
         Mode::Limits => expected.limits(),
-        Mode::Play => expected.play(&case.input),
+        Mode::Frame => expected.play(&case.input),
         Mode::Listen => expected.feed(&case.input),
-        Mode::Station => expected.list(&case.input),
+        Mode::Station => expected.calls(&case.input),
+        Mode::Net => expected.runs(&case.input),
+        Mode::Program => expected.program(&case.input),
     }
     expected
 }
 
 impl Expected {
     fn count(&mut self, kind: &'static str) {
-        *self.tally.entry(kind).or_default() += 1;
+        self.tally.count(kind);
     }
 
     fn line(&mut self, word: &str, bytes: &[u8]) {
@@ -159,6 +243,9 @@ impl Expected {
         for (start, count) in limits::READS {
             self.numbered_read(start, count);
         }
+        for run in limits::runs() {
+            self.run_limit(&run);
+        }
     }
 
     fn frame_limit(&mut self, value: u8, length: usize, places: usize) {
@@ -201,8 +288,8 @@ impl Expected {
     }
 
     /// Makes the calls of a list, all with one table.
-    fn list(&mut self, input: &[u8]) {
-        let (calls, good) = decode(input);
+    fn calls(&mut self, input: &[u8]) {
+        let (calls, good) = decode::<Call>(input);
         let mut bank = Bank::new();
         for call in calls {
             self.listed(&mut bank, &call);
@@ -226,8 +313,7 @@ impl Expected {
             self.text += ", output changed behind";
         }
         if bank.table != before {
-            let values = bank.table.map(|value| format!(" {value:04X}"));
-            self.text += &format!(", registers{}", values.concat());
+            self.text += &format!(", registers{}", words(&bank.table));
         }
         self.text += "\n";
     }
@@ -253,25 +339,63 @@ impl Expected {
         let before = bank.table;
         let (answer, out) = bank.call(call);
         self.count(call_kind(call, answer, &out));
-        let telegram = &call.telegram;
-        let start = match telegram.get(..16) {
-            Some(start) if telegram.len() > 16 => hex(start) + " ..",
-            _ => hex(telegram),
-        };
-        let registers = if bank.table == before {
-            "kept"
-        } else {
-            "changed"
-        };
+        self.text += &format!("own {}", call.own);
+        self.text += &lent_text(call.places, &call.telegram, call.room);
+        self.text += &station_text(answer);
+        self.text += &registers_text(&before, &bank.table);
+        self.text += &changes_text(&out, end_of(answer));
+        self.text += "\n";
+    }
+
+    /// Makes the dry runs of a list.
+    fn runs(&mut self, input: &[u8]) {
+        let (runs, good) = decode::<Run>(input);
+        for run in runs {
+            let (answer, tables, out) = run.make();
+            self.count_run(&run, answer);
+            self.text += &run_text(answer);
+            self.text += &format!("; tables{}; output{}\n", words(&tables), hex(&out));
+        }
+        if !good {
+            self.text += "bad list\n";
+        }
+    }
+
+    fn count_run(&mut self, run: &Run, answer: Result<DryRun, u8>) {
+        self.count(run_kind(run, answer));
+        if let Ok(run) = answer {
+            self.tally.transmissions.insert(run.count);
+        }
+    }
+
+    fn run_limit(&mut self, run: &Run) {
+        let (answer, tables, out) = run.make();
+        self.count_run(run, answer);
+        let addresses = &run.addresses;
         self.text += &format!(
-            "own {}, table {}, output {}, length {}, telegram{start}: {}, registers {registers}{}\n",
-            call.own,
-            call.places,
-            call.room,
-            telegram.len(),
-            station_text(answer),
-            changes_text(&out, end_of(answer))
+            "net of {}, addresses{}",
+            addresses.len(),
+            start(addresses, 16)
         );
+        self.text += &lent_text(run.tables.len(), &run.telegram, run.room);
+        self.text += &run_text(answer);
+        self.text += &registers_text(&run.tables, &tables);
+        let mut from = 0;
+        if let Ok(DryRun { length, .. }) = answer {
+            self.text += &format!(", last{}", start(&out[..length], 64));
+            if out[length..MAX_TELEGRAM].iter().any(|&byte| byte != 0) {
+                self.text += ", NOT 00 behind it";
+            }
+            from = MAX_TELEGRAM;
+        }
+        self.text += &changes_text(&out, from);
+        self.text += "\n";
+    }
+
+    /// The program's text for a telegram.
+    fn program(&mut self, telegram: &[u8]) {
+        self.text = report::program(telegram);
+        self.count(program_kind(&self.text));
     }
 }
 
@@ -356,6 +480,44 @@ fn station_text(answer: station::Answer) -> String {
     }
 }
 
+fn run_text(answer: Result<DryRun, u8>) -> String {
+    match answer {
+        Err(number) => format!("refused {number}"),
+        Ok(DryRun {
+            count,
+            ending,
+            length,
+        }) => {
+            let ending = match ending {
+                Ending::EmptyEntry => "at 00".into(),
+                Ending::UnknownAddress => "at nobody".into(),
+                Ending::Refused(number) => format!("refused {number}"),
+            };
+            format!("played {count}, {ending}, length {length}")
+        }
+    }
+}
+
+/// What is lent at a limit, and the telegram.
+fn lent_text(places: usize, telegram: &[u8], room: usize) -> String {
+    let (length, start) = (telegram.len(), start(telegram, 16));
+    format!(", table {places}, output {room}, length {length}, telegram{start}: ")
+}
+
+/// The place of a table that changed, if one did.
+fn registers_text(before: &[u16], after: &[u16]) -> String {
+    let changed: Vec<usize> = (0..after.len())
+        .filter(|&place| before[place] != after[place])
+        .collect();
+    let more = match changed[..] {
+        [] => return ", registers kept".into(),
+        [_] => "",
+        _ => " and more changed",
+    };
+    let place = changed[0];
+    format!(", table place {place} is {:04X}{more}", after[place])
+}
+
 /// The place of the output behind what was sent.
 fn end_of(answer: station::Answer) -> usize {
     match answer {
@@ -437,10 +599,70 @@ fn call_kind(call: &Call, answer: station::Answer, out: &[u8]) -> &'static str {
     }
 }
 
+/// The kind of a dry run's answer.
+fn run_kind(run: &Run, answer: Result<DryRun, u8>) -> &'static str {
+    match answer {
+        Ok(DryRun { count, ending, .. }) => match (ending, count) {
+            (Ending::EmptyEntry, 1) => "net: ended at 00, 1 transmission",
+            (Ending::EmptyEntry, 2..=31) => "net: ended at 00, 2 to 31 transmissions",
+            (Ending::EmptyEntry, 32..=61) => "net: ended at 00, 32 to 61 transmissions",
+            (Ending::EmptyEntry, 62) => "net: ended at 00, 62 transmissions",
+            (Ending::UnknownAddress, 1) => "net: ended at nobody, 1 transmission",
+            (Ending::UnknownAddress, 2..=31) => "net: ended at nobody, 2 to 31 transmissions",
+            (Ending::UnknownAddress, 32..=60) => "net: ended at nobody, 32 to 60 transmissions",
+            (Ending::Refused(7), 1..=31) => "net: ended with refusal 7",
+            (Ending::Refused(8), 1..=31) => "net: ended with refusal 8",
+            (Ending::Refused(9), 1..=31) => "net: ended with refusal 9",
+            (Ending::Refused(10), 1..=31) => "net: ended with refusal 10",
+            _ => "another answer",
+        },
+        Err(1) => {
+            let addresses = &run.addresses;
+            let twice = |i: usize| addresses[..i].contains(&addresses[i]);
+            if addresses.len() > MAX_STATIONS {
+                "net: refused 1, too many stations"
+            } else if !addresses.iter().all(|&address| is_address(address)) {
+                "net: refused 1, an address out of range"
+            } else if (0..addresses.len()).any(twice) {
+                "net: refused 1, an address twice"
+            } else {
+                "net: refused 1, tables"
+            }
+        }
+        Err(2) => "net: refused 2",
+        Err(3) => "net: refused 3",
+        Err(4) => "net: refused 4",
+        Err(5) => "net: refused 5",
+        Err(6) => "net: refused 6",
+        Err(11) => "net: refused 11",
+        Err(12) => "net: refused 12",
+        Err(_) => "another answer",
+    }
+}
+
+/// The kind of what the program prints, by its last line.
+fn program_kind(text: &str) -> &'static str {
+    let words: Vec<&str> = text.lines().last().unwrap_or("").split(' ').collect();
+    match words[..] {
+        ["sent", _] => "program: sent",
+        ["sent", _, "refused", "7"] => "program: sent, refused 7",
+        ["sent", _, "refused", "8"] => "program: sent, refused 8",
+        ["sent", _, "refused", "9"] => "program: sent, refused 9",
+        ["sent", _, "refused", "10"] => "program: sent, refused 10",
+        ["refused", "2"] => "program: refused 2",
+        ["refused", "3"] => "program: refused 3",
+        ["refused", "4"] => "program: refused 4",
+        ["refused", "5"] => "program: refused 5",
+        ["refused", "6"] => "program: refused 6",
+        ["refused", "12"] => "program: refused 12",
+        _ => "another answer",
+    }
+}
+
 #[cfg(test)]
 mod tests {
     use super::*;
-    use crate::calls::encode;
+    use crate::listed::encode;
 
     fn text(mode: Mode, input: &[u8]) -> String {
         let (name, input, piece) = (String::new(), input.to_vec(), 1);
@@ -459,8 +681,8 @@ mod tests {
             into 5 places: 5, the same frame\ninto 4 places: refused 11\n\
             fed 02: sends 10\nfed 10: nothing\nfed 10: nothing\nfed 10: nothing\nfed 03: nothing\n\
             fed 13: sends 10, message of 1\nmessage 10\nthe message is the data\n";
-        assert_eq!(text(Mode::Play, &[0x10]), lines);
-        assert_eq!(text(Mode::Play, &[0; 1025]), "frame: refused 12\n");
+        assert_eq!(text(Mode::Frame, &[0x10]), lines);
+        assert_eq!(text(Mode::Frame, &[0; 1025]), "frame: refused 12\n");
     }
 
     #[test]
@@ -494,5 +716,40 @@ mod tests {
         assert_eq!(text(Mode::Station, &list), lines);
         list.push(0);
         assert_eq!(text(Mode::Station, &list), lines.to_owned() + "bad list\n");
+    }
+    #[test]
+    fn nets() {
+        let run = |addresses: &[u8], telegram: &[u8], room| Run {
+            addresses: addresses.to_vec(),
+            tables: vec![7; 18 * addresses.len()],
+            telegram: telegram.to_vec(),
+            room,
+        };
+        let request = [
+            0x60, 0xFF, 0x12, 0x55, 0x00, 0x00, 0x01, 0x2C, 0x01, 0x01, 0x2C, 0x01, 0x00, 0x01,
+        ];
+        let list = encode(&[
+            run(&[0x55, 0x12], &request, 1025),
+            run(&[0x12], &request, 1024),
+            run(&[0x12], &request, 2),
+            run(&[], &[], 1024),
+        ]);
+        let mut changed = [7; 36];
+        changed[1] = 1;
+        let zeros = " 00";
+        let mut lines = format!(
+            "played 4, at 00, length 11; tables{}; output E0 FF 00 12 55 00 01 2C 01 00 01{} EE\n",
+            words(&changed),
+            zeros.repeat(1013)
+        );
+        lines += &format!(
+            "played 2, at nobody, length 14; tables{}; output{}{}\n",
+            words(&[7; 18]),
+            " 60 FF 55 00 00 12 01 2C 01 01 2C 01 00 01",
+            zeros.repeat(1010)
+        );
+        lines += &format!("refused 11; tables{}; output EE EE\n", words(&[7; 18]));
+        lines += &format!("refused 2; tables; output{}\n", " EE".repeat(1024));
+        assert_eq!(text(Mode::Net, &list), lines);
     }
 }

@@ -1,17 +1,17 @@
--- `same_values` stays within both tables and ends.
+-- `first_difference` stays within both tables and ends.
 -- Assumes nothing.
-use Prim.Native.Nat.{_≤_, _-_}
+use Prim.Native.Nat.{_-_}
 use mathlib.Core.Path.{_≡_}
 use lib.ListN.{length}
 use borrow.Author.Needs.{needs}
-use Rattle.run_cases.proofs.station.same_values.Statement.{statement}
-use Rattle.run_cases.proofs.station.same_values.Tie as tie
+use Rattle.run_cases.proofs.station.first_difference.Statement.{statement}
+use Rattle.run_cases.proofs.station.first_difference.Tie as tie
 
 abbrev Inv-loop : tie.InvT-loop
-Inv-loop a b i₀ i = (length a ≡ length b) × (i ≤ length a)
+Inv-loop a b n i₀ i = length a ≡ length b
 
 abbrev μ-loop : tie.MeasureT-loop
-μ-loop a b i₀ i = length a - i
+μ-loop a b n i₀ i = length a - i
 
 returns : tie.Need-returns Inv-loop μ-loop
 returns c = search needs
@@ -46,8 +46,8 @@ loop-again c = search needs
 returns-3 : tie.Need-returns-3 Inv-loop μ-loop
 returns-3 c = search needs
 
-pub same-values-spec : {M : Type 1} → statement M
-same-values-spec =
+pub first-difference-spec : {M : Type 1} → statement M
+first-difference-spec =
     tie.close
     (tie.spec
     Inv-loop

@@ -1,28 +1,26 @@
--- `first_change` stays within the slice and ends.
+-- `make_runs` ends.
 -- Assumes nothing.
-use Prim.Native.Nat.{_-_}
-use lib.ListN.{length}
 use borrow.Author.Needs.{needs}
-use Rattle.run_cases.proofs.limits.first_change.Statement.{statement}
-use Rattle.run_cases.proofs.limits.first_change.Tie as tie
+use Rattle.run_cases.proofs.nets.make_runs.Statement.{statement}
+use Rattle.run_cases.proofs.nets.make_runs.Tie as tie
 
 abbrev Inv-loop : tie.InvT-loop
-Inv-loop s n i₀ i = Unit {0}
+Inv-loop turns₀ turns = Unit {0}
 
 abbrev μ-loop : tie.MeasureT-loop
-μ-loop s n i₀ i = length s - i
+μ-loop turns₀ turns = turns
 
 loop-holds : tie.Need-loop-holds Inv-loop μ-loop
 loop-holds c = search needs
 
-shared-slice-read-if1 : tie.Need-shared-slice-read-if1 Inv-loop μ-loop
-shared-slice-read-if1 c = search needs
+next-run-requires : tie.Need-next-run-requires Inv-loop μ-loop
+next-run-requires c κs = search needs
 
 returns : tie.Need-returns Inv-loop μ-loop
 returns c = search needs
 
-add-i : tie.Need-add-i Inv-loop μ-loop
-add-i c = search needs
+sub-turns : tie.Need-sub-turns Inv-loop μ-loop
+sub-turns c = search needs
 
 loop-less : tie.Need-loop-less Inv-loop μ-loop
 loop-less c = search needs
@@ -33,16 +31,16 @@ loop-again c = search needs
 returns-2 : tie.Need-returns-2 Inv-loop μ-loop
 returns-2 c = search needs
 
-pub first-change-spec : {M : Type 1} → statement M
-first-change-spec =
+pub make-runs-spec : {M : Type 1} → statement M
+make-runs-spec =
     tie.close
     (tie.spec
     Inv-loop
     μ-loop
     loop-holds
-    shared-slice-read-if1
+    next-run-requires
     returns
-    add-i
+    sub-turns
     loop-less
     loop-again
     returns-2)

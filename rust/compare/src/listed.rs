@@ -1,0 +1,44 @@
+//! Lists of what the program is to do, as it reads them.
+
+/// Most places of an output, and most bytes of a telegram, in a list.
+pub const MOST: usize = 1100;
+/// What an output holds before a call.
+pub const BEFORE: u8 = 0xEE;
+
+/// An item of a list.
+pub trait Listed: Clone {
+    fn encode(&self) -> Vec<u8>;
+    /// The first item of a list and what follows it; nothing where the list has a fault there.
+    fn decode(bytes: &[u8]) -> Option<(Self, &[u8])>;
+    fn telegram(&mut self) -> &mut Vec<u8>;
+    /// The item without one of its stations, if it has so many.
+    fn without(&self, station: usize) -> Option<Self>;
+}
+
+/// The two bytes of a number, the high one first.
+pub fn two(number: usize) -> [u8; 2] {
+    [(number / 256) as u8, (number % 256) as u8]
+}
+
+/// The number of two bytes.
+pub fn number(high: u8, low: u8) -> usize {
+    usize::from(u16::from_be_bytes([high, low]))
+}
+
+/// The bytes of a list.
+pub fn encode<T: Listed>(items: &[T]) -> Vec<u8> {
+    items.iter().flat_map(T::encode).collect()
+}
+
+/// The items of a list up to its first fault, and whether it has none.
+pub fn decode<T: Listed>(mut bytes: &[u8]) -> (Vec<T>, bool) {
+    let mut items = Vec::new();
+    while !bytes.is_empty() {
+        let Some((item, rest)) = T::decode(bytes) else {
+            return (items, false);
+        };
+        items.push(item);
+        bytes = rest;
+    }
+    (items, true)
+}
