@@ -1,22 +1,22 @@
 -- A hop is one step of the journey that is played.
 -- Assumes nothing.
-use mathlib.Core.Path.{_≡_, refl, sym, _∙_, ap, ap₂, subst}
+use mathlib.Core.Path.{_≡_, refl, sym, _∙_, ap, subst}
 use mathlib.Core.Bool.{Bool, true, false}
 use mathlib.Core.List.{List, [], _∷_}
 use Prim.Native.Nat.{ℕ, zero, suc, _≤_}
 use native.Mathlib.Omega.{arith}
-use lib.ListN.{length, take, replicate}
+use lib.ListN.{length, take}
 use Rattle.base.specs.Choice.{pick}
 use Rattle.registers.specs.Rows.{tableLength}
 use Rattle.mop_block.specs.Block.{first}
 use Rattle.mop_header.specs.Reading.{Finding, fine, fault, reading}
 use Rattle.mop_header.specs.declared.Reader.the-variants.{Station}
 use Rattle.mop_station.specs.Station.{Handled, sent, notMine, refuses, Handling, handling}
-use Rattle.journey.specs.Net.{Net, isThere, tableAt, withTable}
+use Rattle.journey.specs.Net.{Net, isThere, tableAt}
 use Rattle.journey.specs.Journey.{Ending, atNobody, refusedWith, Handler, noStation, station, named, addressee, handler}
-use Rattle.journey.specs.Journey.{Course, unheard, refusal, onward, callOutput, leftBy}
+use Rattle.journey.specs.Journey.{Course, onward, callOutput, leftBy}
 use Rattle.journey.specs.Bounded.{calling, answered, called, heardBy, playing}
-use Rattle.journey.proofs.Outputs.{SameCall, any-output}
+use Rattle.journey.proofs.Bounded.{same-calling, called-same}
 use Rattle.net.specs.Tables.{netOf, tablesOf, tablesFit}
 use Rattle.net.specs.Hop.{Hopped, goesOn, ended, Hop, hop, hoppedBy, meeting, hopping}
 use Rattle.net.proofs.Tables.{length-table, tables-new-fit, net-of-new}
@@ -69,20 +69,6 @@ module _ (net : Net) (a : ℕ) (t : List ℕ) where
   unfolding handler
   found tg e = found-addressee (reading Station tg .finding) (first (reading Station tg .header .block)) e
 
--- two calls that give the same, and the rest played
-module _ (rest : Net → List ℕ → Course) (net : Net) (tg : List ℕ) (a : ℕ) {x y : Handling} (same : SameCall x y) where
-  left-same : leftBy a y net ≡ leftBy a x net
-  left-same = ap (λ (t : List ℕ). withTable a t net) (sym (same .registers))
-
-  answered-same : (v : Handled) → x .handled ≡ v →
-      answered rest (leftBy a y net) tg (y .output) v ≡ answered rest (leftBy a x net) tg (x .output) v
-  answered-same (sent n) e = ap (onward tg n) (ap₂ rest left-same (sym (same .bytes n e)))
-  answered-same (refuses k) e = ap (λ (n : Net). refusal tg n k) left-same
-  answered-same notMine e = ap (λ (n : Net). unheard tg n atNobody) left-same
-
-  called-same : (v : Handled) → x .handled ≡ v → called rest net tg a y ≡ answered rest (leftBy a x net) tg (x .output) v
-  called-same v e = rw (sym (same .handled) ∙ e) (answered-same v e)
-
 module _ (k : ℕ) (tg addresses tables out : List ℕ) (fits : tablesFit addresses tables ≡ true) (room : callOutput ≤ length out) where
   abbrev Step : Hop → Type 0
   Step x = HopStep k tg addresses tables out (x .tables) (x .output) (x .hopped)
@@ -119,7 +105,7 @@ module _ (k : ℕ) (tg addresses tables out : List ℕ) (fits : tablesFit addres
     unfolding playing calling
     played v e =
         ap (heardBy (playing k) (netOf addresses tables) tg) whose
-        ∙ called-same (playing k) (netOf addresses tables) tg a (any-output a t tg out (replicate callOutput 0) room (omega arith)) v e
+        ∙ called-same (playing k) (netOf addresses tables) tg a (same-calling a t tg out room) v e
 
     here : Found (netOf addresses tables) a t
     here = found (netOf addresses tables) a t tg whose
