@@ -1,3 +1,5 @@
+-- `write_extended`: seven stores, and the block behind them.
+-- Assumes nothing.
 use mathlib.Core.Path.{_∙_}
 use native.Mathlib.Omega.{arith}
 use lib.ListN.{length-set}

@@ -1,8 +1,8 @@
+-- `hex_digit`: each return is a side of the choice.
+-- Assumes nothing.
 use borrow.Author.Tests.{lt-ltb, le-ltb}
 use native.Mathlib.Omega.{arith}
 use Rattle.report.specs.Text.{hexDigit}
--- `hex_digit`: each return is a side of the choice.
--- Assumes nothing.
 use borrow.Author.Needs.{needs}
 use Rattle.report.proofs.hex_digit.Statement.{statement}
 use Rattle.report.proofs.hex_digit.Tie as tie

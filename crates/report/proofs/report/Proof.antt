@@ -1,23 +1,20 @@
-use mathlib.Core.Path.{_≡_}
+-- `report`: each return is a case of reporting.
+-- Assumes nothing.
+use mathlib.Core.Path.{_≡_, sym, _∙_, ap}
 use mathlib.Core.Bool.{true}
 use Rattle.mop_header.specs.declared.Verdict.the-variants.{Fine, Fault}
 use Rattle.net.specs.Tables.{setUp}
-use Rattle.report.specs.Report.{Report, reporting}
-use mathlib.Core.Path.{sym, _∙_, ap}
+use Rattle.report.specs.Report.{Report, reporting, toldOf}
 use native.Mathlib.Omega.{arith}
 use borrow.Author.Tests.{not-true, not-false}
 use Rattle.refusal.specs.Numbers.{numberOf}
-use Rattle.mop_header.specs.Reading.{Reading}
-use Rattle.mop_header.specs.Reading.{findingOf}
+use Rattle.mop_header.specs.Reading.{Reading, findingOf}
 use Rattle.mop_header.specs.declared.Verdict.{Verdict}
 use Rattle.net.proofs.Tables.{set-up-fit}
 use Rattle.report.specs.Text.{outrightText}
-use Rattle.report.specs.Report.{toldOf}
 use Rattle.mop_header.specs.declared.Reader.the-variants.{Station}
 use Rattle.mop_header.proofs.ReadBack.{fine-short}
 use Rattle.report.proofs.Reporting.{reports-short, reports-unfit, reports-rest, tells-text, outright-bound}
--- `report`: each return is a case of reporting.
--- Assumes nothing.
 use borrow.Author.Needs.{needs}
 use Rattle.report.proofs.report.Statement.{statement}
 use Rattle.report.proofs.report.Tie as tie

@@ -1,9 +1,9 @@
+-- `write_byte`: three stores.
+-- Assumes nothing.
 use native.Mathlib.Omega.{arith}
 use native.Mathlib.Numerals.{add-one, add-two}
 use lib.ListN.{length-set}
 use Rattle.report.specs.Text.{hexBytes}
--- `write_byte`: three stores.
--- Assumes nothing.
 use borrow.Author.Needs.{needs}
 use Rattle.report.proofs.write_byte.Statement.{statement}
 use Rattle.report.proofs.write_byte.Tie as tie

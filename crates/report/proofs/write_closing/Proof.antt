@@ -1,3 +1,5 @@
+-- `write_closing`: the ending and the end of the line behind the count.
+-- Assumes nothing.
 use mathlib.Core.Path.{ap, _∙_}
 use mathlib.Core.List.{List, _++_}
 use Prim.Native.Nat.{ℕ}
@@ -9,8 +11,6 @@ use Rattle.report.specs.Writing.{writing}
 use Rattle.report.proofs.Writing.{behind, place, stored}
 use Rattle.report.proofs.Lengths.{sent-bound, ending-bound}
 use Rattle.report.proofs.Lines.{closing-parts}
--- `write_closing`: the ending and the end of the line behind the count.
--- Assumes nothing.
 use borrow.Author.Needs.{needs}
 use Rattle.report.proofs.write_closing.Statement.{statement}
 use Rattle.report.proofs.write_closing.Tie as tie

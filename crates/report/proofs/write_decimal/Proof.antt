@@ -1,10 +1,10 @@
+-- `write_decimal`: each return is a side of the choice.
+-- Assumes nothing.
 use borrow.Author.Tests.{lt-ltb, le-ltb}
 use native.Mathlib.Omega.{arith}
 use native.Mathlib.Numerals.{add-one}
 use lib.ListN.{length-set}
 use Rattle.report.specs.Text.{decimal}
--- `write_decimal`: each return is a side of the choice.
--- Assumes nothing.
 use borrow.Author.Needs.{needs}
 use Rattle.report.proofs.write_decimal.Statement.{statement}
 use Rattle.report.proofs.write_decimal.Tie as tie

@@ -1,6 +1,7 @@
-use mathlib.Core.Path.{refl}
+-- `write_ending`: nothing, or a space and the refusal.
+-- Assumes nothing.
+use mathlib.Core.Path.{refl, ap, sym, _∙_}
 use Rattle.refusal.specs.Numbers.{numberOf}
-use mathlib.Core.Path.{ap, sym, _∙_}
 use mathlib.Core.List.{[], _∷_}
 use native.Mathlib.Omega.{arith}
 use lib.ListN.{length-set}
@@ -9,8 +10,6 @@ use Rattle.net.specs.declared.JourneyEnd.{JourneyEnd}
 use Rattle.report.specs.Text.{space, refusedText, endingText}
 use Rattle.report.specs.Writing.{writing}
 use Rattle.report.proofs.Writing.{nothing, worded}
--- `write_ending`: nothing, or a space and the refusal.
--- Assumes nothing.
 use borrow.Author.Needs.{needs}
 use Rattle.report.proofs.write_ending.Statement.{statement}
 use Rattle.report.proofs.write_ending.Tie as tie

@@ -1,22 +1,17 @@
-use mathlib.Core.Path.{ap}
-use lib.ListN.{length-drop}
-use Prim.Native.Nat.{_+_}
-use Rattle.report.specs.Writing.{Writing}
-use mathlib.Core.Path.{refl, _∙_}
+-- `write_entries`: what is written, and what is left from i on, make the whole. What is left falls.
+-- Assumes nothing.
+use mathlib.Core.Path.{ap, refl, _∙_, _≡_}
+use lib.ListN.{length-drop, length, drop}
+use Prim.Native.Nat.{_+_, _≤_, _-_}
+use Rattle.report.specs.Writing.{Writing, writing}
 use mathlib.Core.List.{[], _∷_}
 use Rattle.report.proofs.Writing.{goes-on, all-written}
 use Rattle.report.proofs.Lengths.{length-hex}
 use Rattle.report.proofs.Hex.{hex-next, hex-end}
-use Prim.Native.Nat.{_≤_, _-_}
-use mathlib.Core.Path.{_≡_}
 use native.Mathlib.Omega.{arith}
-use lib.ListN.{length, drop}
 use borrow.Author.Needs.{needs}
 use Rattle.mop_header.specs.Header.{headOf}
 use Rattle.report.specs.Text.{hexBytes}
-use Rattle.report.specs.Writing.{writing}
--- `write_entries`: what is written, and what is left from i on, make the whole. What is left falls.
--- Assumes nothing.
 use Rattle.report.proofs.write_entries.Statement.{statement}
 use Rattle.report.proofs.write_entries.Tie as tie
 

@@ -1,4 +1,6 @@
-use Rattle.journey.specs.Journey.{atZero}
+-- `write_journey`: what is told, and what is left of the journey, make the whole text.
+-- Assumes nothing.
+use Rattle.journey.specs.Journey.{atZero, callOutput}
 use Rattle.report.specs.Text.{closing}
 use Rattle.report.specs.Report.{toldOf}
 use Rattle.report.proofs.Writing.{place}
@@ -9,11 +11,8 @@ use Rattle.report.proofs.Copies.{copied, copied-part}
 use Rattle.net.specs.Hop.{hopOf, hopping, endingOf}
 use Rattle.net.specs.declared.HopAnswer.{HopAnswer}
 use Rattle.net.specs.declared.HopAnswer.the-variants.{Sent, Ended}
-use Rattle.journey.specs.Journey.{callOutput}
 use Rattle.net.proofs.Hops.{HopGoes, hop-goes}
 use mathlib.Core.List.{List}
--- `write_journey`: what is told, and what is left of the journey, make the whole text.
--- Assumes nothing.
 use Prim.Native.Nat.{ℕ, _+_, _*_, _-_, _≤_}
 use mathlib.Core.Path.{_≡_, refl, _∙_, ap}
 use mathlib.Core.Bool.{true}

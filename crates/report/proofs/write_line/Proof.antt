@@ -1,8 +1,8 @@
-use Prim.Native.Nat.{_+_, _≤_}
-use mathlib.Core.Path.{_≡_}
-use mathlib.Core.Path.{ap, _∙_}
+-- `write_line`: the number, the function byte, the entries and the end of the line, one behind the other.
+-- Assumes nothing.
+use Prim.Native.Nat.{_+_, _≤_, ℕ}
+use mathlib.Core.Path.{_≡_, ap, _∙_}
 use mathlib.Core.List.{List, [], _∷_, _++_}
-use Prim.Native.Nat.{ℕ}
 use native.Mathlib.Omega.{arith}
 use lib.ListN.{length, length-set, length-take}
 use Rattle.mop_header.specs.Header.{headOf}
@@ -12,8 +12,6 @@ use Rattle.report.specs.Writing.{writing}
 use Rattle.report.proofs.Writing.{behind, place, stored}
 use Rattle.report.proofs.Lengths.{decimal-bound, length-hex}
 use Rattle.report.proofs.Lines.{line-parts}
--- `write_line`: the number, the function byte, the entries and the end of the line, one behind the other.
--- Assumes nothing.
 use borrow.Author.Needs.{needs}
 use Rattle.report.proofs.write_line.Statement.{statement}
 use Rattle.report.proofs.write_line.Tie as tie

@@ -1,10 +1,10 @@
+-- `write_outright`: the end of the line behind the refusal.
+-- Assumes nothing.
 use native.Mathlib.Omega.{arith}
 use Rattle.refusal.specs.Numbers.{numberOf}
 use Rattle.report.specs.Text.{lineFeed, refusedText, outrightText}
 use Rattle.report.proofs.Writing.{place, stored}
 use Rattle.report.proofs.Lengths.{refused-bound}
--- `write_outright`: the end of the line behind the refusal.
--- Assumes nothing.
 use borrow.Author.Needs.{needs}
 use Rattle.report.proofs.write_outright.Statement.{statement}
 use Rattle.report.proofs.write_outright.Tie as tie

@@ -1,10 +1,10 @@
+-- `write_refused`: the number behind the word.
+-- Assumes nothing.
 use mathlib.Core.List.{[], _∷_}
 use native.Mathlib.Omega.{arith}
 use Rattle.report.specs.Text.{space, decimal, refusedText}
 use Rattle.report.proofs.Writing.{worded}
 use Rattle.report.proofs.Lengths.{number-bound}
--- `write_refused`: the number behind the word.
--- Assumes nothing.
 use borrow.Author.Needs.{needs}
 use Rattle.report.proofs.write_refused.Statement.{statement}
 use Rattle.report.proofs.write_refused.Tie as tie

@@ -1,8 +1,8 @@
+-- `write_sent`: the number behind the word.
+-- Assumes nothing.
 use mathlib.Core.List.{[], _∷_}
 use Rattle.report.specs.Text.{space, decimal, sentText}
 use Rattle.report.proofs.Writing.{worded}
--- `write_sent`: the number behind the word.
--- Assumes nothing.
 use borrow.Author.Needs.{needs}
 use Rattle.report.proofs.write_sent.Statement.{statement}
 use Rattle.report.proofs.write_sent.Tie as tie
