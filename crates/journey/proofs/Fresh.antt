@@ -20,7 +20,7 @@ use Rattle.mop_station.proofs.Bodies.{accepted}
 use Rattle.mop_station.proofs.Answers.{length-values}
 use Rattle.journey.specs.Net.{Net, goodNet, isThere, allThere, tableAt, withTable}
 use Rattle.journey.specs.Journey.{Course}
-use Rattle.journey.specs.Terms.{heard, thereAndBack, Written, destination}
+use Rattle.journey.specs.Terms.{shown, thereAndBack, Written, destination}
 use Rattle.journey.specs.Demand3.{Accomplished}
 use Rattle.journey.specs.Transmissions.{outward, relayedBlock, homeward, requestOn, allTelegrams}
 use Rattle.journey.proofs.Net.{good-table, there-parts}
@@ -42,7 +42,7 @@ length-both route body reply some =
     (both-ways (length route) (length (tail (reverse route))) some (length-tail (reverse route) ∙ ap (λ (n : ℕ). n - 1) (length-reverse route)))
 
 -- the table after the writes of an accepted body
-writes-all : (body t : List ℕ) → judgedBody body ≡ accepts → length t ≡ tableLength → Written body t (afterWrites body t)
+pub writes-all : (body t : List ℕ) → judgedBody body ≡ accepts → length t ≡ tableLength → Written body t (afterWrites body t)
 unfolding afterWrites
 writes-all body t verdict long =
     let a = accepted body verdict in
@@ -79,9 +79,9 @@ module _ (net : Net) (h : Head) (body : List ℕ) (d : Course) (x : Fulfilled ne
 
   module _ (fit : goodNet net ≡ true) (some : 1 ≤ length (stations (h .block))) (all : allThere (stations (h .block)) net ≡ true)
       (verdict : judgedBody body ≡ accepts) where
-    passage-is : map heard (d .transmissions) ≡ thereAndBack (stations (h .block)) body (replyBody body (tableAt (destination h) (d .after)))
+    passage-is : map shown (d .transmissions) ≡ thereAndBack (stations (h .block)) body (replyBody body (tableAt (destination h) (d .after)))
     passage-is =
-        subst (λ (a : ℕ). map heard (d .transmissions) ≡ thereAndBack (stations (h .block)) body (replyBody body (tableAt a (d .after))))
+        subst (λ (a : ℕ). map shown (d .transmissions) ≡ thereAndBack (stations (h .block)) body (replyBody body (tableAt a (d .after))))
         at-destination (x .passage)
 
     written-last : (let a = lastOf (stations (h .block)) in Written body (tableAt a net) (tableAt a (d .after)))
@@ -92,7 +92,7 @@ module _ (net : Net) (h : Head) (body : List ℕ) (d : Course) (x : Fulfilled ne
 
     pub fulfilled : Accomplished net h body d
     fulfilled = record {
-      count = sym (length-map (d .transmissions) heard) ∙ ap length passage-is
+      count = sym (length-map (d .transmissions) shown) ∙ ap length passage-is
           ∙ length-both (stations (h .block)) body (replyBody body (tableAt (destination h) (d .after))) some;
       passage = passage-is;
       ending = x .ending;

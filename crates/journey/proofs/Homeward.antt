@@ -17,16 +17,16 @@ use Rattle.mop_header.specs.declared.Function.the-variants.{Reply}
 use Rattle.mop_header.proofs.Lengths.{headerRoom}
 use Rattle.journey.specs.Net.{Net, goodNet, isThere, allThere}
 use Rattle.journey.specs.Journey.{Ending, atZero, atNobody, refusedWith, Course, unheard, onward, callOutput, Journey}
-use Rattle.journey.specs.Terms.{Heard, hears, heard, allOrdinary, allFine}
+use Rattle.journey.specs.Terms.{Shown, shows, shown, allOrdinary, allFine}
 use Rattle.journey.specs.Transmissions.{homeward}
 use Rattle.journey.proofs.Net.{there-parts, not-there}
-use Rattle.journey.proofs.Telegrams.{telegramFor, Faultless, reads-well, still-fine, heard-as, first-is}
+use Rattle.journey.proofs.Telegrams.{telegramFor, Faultless, reads-well, still-fine, shown-as, first-is}
 use Rattle.journey.proofs.Steps.{ends-zero, stop-nobody, hop-reply}
 use Rattle.journey.proofs.Positions.{first-ahead, first-returned, same-ring, moved-back, faultless-at, faultless-home}
 
 -- the replies of a journey home on which every station is there
 pub record Homecoming (c : ℕ) (form : Form) (b body back : List ℕ) (d : Course) : Type 0 where
-  pub passage : map heard (d .transmissions) ≡ map (λ (a : ℕ). hears Reply a body) (back ++ (0 ∷ []))
+  pub passage : map shown (d .transmissions) ≡ map (λ (a : ℕ). shows Reply a body) (back ++ (0 ∷ []))
   pub telegrams : d .transmissions ≡ map (λ (e : List ℕ). telegramFor Reply c form e body) (b ∷ homeward (length back) b)
   pub ending : d .ending ≡ atZero
 
@@ -83,7 +83,7 @@ module _ (out : List ℕ) (room : callOutput ≤ length out) (c : ℕ) (form : F
         plain = refl;
         taken = zero-unrefused;
         whole = λ all. record {
-          passage = ap (λ (x : Heard). x ∷ []) (heard-as Reply c w zero-first);
+          passage = ap (λ (x : Shown). x ∷ []) (shown-as Reply c w zero-first);
           telegrams = refl;
           ending = refl;
         };
@@ -119,7 +119,7 @@ module _ (out : List ℕ) (room : callOutput ≤ length out) (c : ℕ) (form : F
         whole = λ all.
             let x = r .whole (there-parts (suc s) back net all .1) in
             record {
-              passage = one-more (heard-as Reply c w mine) (x .passage);
+              passage = one-more (shown-as Reply c w mine) (x .passage);
               telegrams = one-more refl (x .telegrams);
               ending = x .ending;
             };

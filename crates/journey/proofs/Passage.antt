@@ -20,11 +20,11 @@ use Rattle.mop_station.proofs.Bodies.{rejected-number}
 use Rattle.mop_station.proofs.Answers.{length-after, reply-bound}
 use Rattle.journey.specs.Net.{Net, goodNet, isThere, allThere, tableAt, withTable}
 use Rattle.journey.specs.Journey.{atZero, atNobody, refusedWith, Course, unheard, refusal, onward, callOutput, Journey}
-use Rattle.journey.specs.Terms.{hears, heard, allOrdinary, allFine}
+use Rattle.journey.specs.Terms.{shows, shown, allOrdinary, allFine}
 use Rattle.journey.specs.Transmissions.{outward, relayedBlock, homeward}
 use Rattle.journey.proofs.Net.{table-same, all-there-with, good-with, good-table, there-parts, there-both, not-there}
 use Rattle.journey.proofs.Ring.{lastOf}
-use Rattle.journey.proofs.Telegrams.{telegramFor, Faultless, still-fine, heard-as, reply-short}
+use Rattle.journey.proofs.Telegrams.{telegramFor, Faultless, still-fine, shown-as, reply-short}
 use Rattle.journey.proofs.Steps.{stop-nobody, hop-request, hop-accepted, stop-rejected}
 use Rattle.journey.proofs.Positions.{first-ahead, next-ahead, next-zero, same-ring, moved-on}
 use Rattle.journey.proofs.Positions.{length-spread, faultless-at}
@@ -36,8 +36,8 @@ replyOf body ahead d = replyBody body (tableAt (lastOf ahead) (d .after))
 
 -- a journey out and home on which every station is there and the destination accepts the body
 pub record Fulfilled (net : Net) (c : ℕ) (form : Form) (b body ahead back : List ℕ) (d : Course) : Type 0 where
-  pub passage : map heard (d .transmissions)
-      ≡ map (λ (a : ℕ). hears Request a body) ahead ++ map (λ (a : ℕ). hears Reply a (replyOf body ahead d)) (tail (reverseAux ahead back) ++ (0 ∷ []))
+  pub passage : map shown (d .transmissions)
+      ≡ map (λ (a : ℕ). shows Request a body) ahead ++ map (λ (a : ℕ). shows Reply a (replyOf body ahead d)) (tail (reverseAux ahead back) ++ (0 ∷ []))
   pub telegrams : d .transmissions
       ≡ map (λ (e : List ℕ). telegramFor Request c form e body) (outward (length ahead) b)
       ++ map (λ (e : List ℕ). telegramFor Reply newControl form e (replyOf body ahead d))
@@ -46,12 +46,25 @@ pub record Fulfilled (net : Net) (c : ℕ) (form : Form) (b body ahead back : Li
   pub written : tableAt (lastOf ahead) (d .after) ≡ afterWrites body (tableAt (lastOf ahead) net)
   pub others : d .after ≡ withTable (lastOf ahead) (tableAt (lastOf ahead) (d .after)) net
 
+-- the only change of a net: a station of it, which accepts the body, has the values
+pub record Carries (net : Net) (a : ℕ) (body : List ℕ) (after : Net) : Type 0 where
+  pub there : isThere a net ≡ true
+  pub accepted : judgedBody body ≡ accepts
+  pub is : after ≡ withTable a (afterWrites body (tableAt a net)) net
+
+-- a journey out on which every station is there and the destination refuses the body
+pub record Stopped (net : Net) (body ahead : List ℕ) (k : ℕ) (d : Course) : Type 0 where
+  pub passage : map shown (d .transmissions) ≡ map (λ (a : ℕ). shows Request a body) ahead
+  pub ending : d .ending ≡ refusedWith k
+  pub kept : d .after ≡ net
+
 -- a request's journey, out along the stations ahead and home
 pub record Out (net : Net) (c : ℕ) (form : Form) (b body ahead back : List ℕ) : Type 0 where
   pub course : Course
   pub journey : Journey net (telegramFor Request c form b body) course
   pub most : length (course .transmissions) ≤ 2 * length ahead + length back
-  pub changes : (course .after ≡ net) ⊎ ((t : List ℕ) × (course .after ≡ withTable (lastOf ahead) t net))
+  pub changes : (course .after ≡ net) ⊎ Carries net (lastOf ahead) body (course .after)
+  pub stopped : allThere ahead net ≡ true → (k : ℕ) → judgedBody body ≡ rejects k → Stopped net body ahead k course
   pub fine : allFine (course .transmissions) ≡ true
   pub plain : allOrdinary (course .answers) ≡ true
   pub refused-keeps : (k : ℕ) → course .ending ≡ refusedWith k → course .after ≡ net
@@ -70,13 +83,16 @@ most-on x l k h = omega arith
 one-on : (l z k n : ℕ) → suc (suc l) + suc z + k ≡ n → suc l + suc z + suc k ≡ n
 one-on l z k n h = omega arith
 
+same-ending : {v : Acceptance} {k j : ℕ} → v ≡ rejects k → v ≡ rejects j → refusedWith k ≡ refusedWith j
+same-ending e f = cc
+
 rejects-accepts : {v : Acceptance} {k : ℕ} → v ≡ rejects k → v ≡ accepts → ⊥
 rejects-accepts e f = let x : _≡_ {A = ℕ} 0 1 = cc in omega arith
 
 -- the stations in the order of the ring, and the block's length, stay; `out` is the output that each call is lent
 module _ (out : List ℕ) (room : callOutput ≤ length out) (form : Form) (z : ℕ) (ring : List ℕ) (n : ℕ) (once : Once ring) (size : sized form n ≡ true)
     (c : ℕ) (body : List ℕ) (net : Net) (fit : goodNet net ≡ true) (short : headerRoom form n + length body ≤ maxTelegram) where
-  -- nobody hears it
+  -- nobody shows it
   lost : (p : ℕ) (ahead back : List ℕ) → Faultless form (spread (suc p ∷ ahead) z (reverse back)) body → isThere (suc p) net ≡ false →
       Out net c form (spread (suc p ∷ ahead) z (reverse back)) body (suc p ∷ ahead) back
   lost p ahead back w e = record {
@@ -87,6 +103,7 @@ module _ (out : List ℕ) (room : callOutput ≤ length out) (form : Form) (z : 
     fine = still-fine Request c w [] refl;
     plain = refl;
     refused-keeps = λ k e. refl;
+    stopped = λ all k verdict. absurd (not-there (suc p) ahead net e all);
     whole = λ all passed verdict. absurd (not-there (suc p) ahead net e all);
   }
 
@@ -105,6 +122,11 @@ module _ (out : List ℕ) (room : callOutput ≤ length out) (form : Form) (z : 
       fine = still-fine Request c w [] refl;
       plain = rw (rejected-number body k verdict);
       refused-keeps = λ k e. refl;
+      stopped = λ all j other. record {
+        passage = one-more (shown-as Request c w mine) refl;
+        ending = same-ending verdict other;
+        kept = refl;
+      };
       whole = λ all passed taken. absurd (rejects-accepts verdict taken);
     }
 
@@ -126,15 +148,16 @@ module _ (out : List ℕ) (room : callOutput ≤ length out) (form : Form) (z : 
           course = onward tg (length (telegramFor Reply newControl form (rollRight b) reply)) (r .course);
           journey = hop-accepted out room net fit w p mine there c (next-zero (suc p) z (reverse back)) verdict (r .course) (r .journey);
           most = most-end (length (r .course .transmissions)) (length back) (r .most);
-          changes = inr (t, r .kept);
+          changes = inr (record { there = there; accepted = verdict; is = r .kept });
+          stopped = λ all k other. absurd (rejects-accepts other verdict);
           fine = still-fine Request c w (r .course .transmissions) (r .fine);
           plain = r .plain;
           refused-keeps = λ k e. absurd (r .taken k e);
           whole = λ all passed taken.
               let x = r .whole (all-there-with back (suc p) t net ∙ passed) in
               record {
-                passage = one-more (heard-as Request c w mine)
-                    (x .passage ∙ ap (λ (u : List ℕ). map (λ (a : ℕ). hears Reply a (replyBody body u)) (back ++ (0 ∷ []))) (sym now));
+                passage = one-more (shown-as Request c w mine)
+                    (x .passage ∙ ap (λ (u : List ℕ). map (λ (a : ℕ). shows Reply a (replyBody body u)) (back ++ (0 ∷ []))) (sym now));
                 telegrams = one-more refl
                     (x .telegrams
                     ∙ ap (λ (u : List ℕ). map (λ (d : List ℕ). telegramFor Reply newControl form d (replyBody body u)) (homeward (suc (length back)) b))
@@ -162,6 +185,9 @@ module _ (out : List ℕ) (room : callOutput ≤ length out) (form : Form) (z : 
         journey = hop-request out room net fit w p mine there c (next-ahead q ahead z (reverse back) (suc p)) (r .course) (r .journey);
         most = most-on (length (r .course .transmissions)) (length ahead) (length back) (r .most);
         changes = r .changes;
+        stopped = λ all k verdict.
+            let x = r .stopped (there-parts (suc p) (suc q ∷ ahead) net all .1) k verdict in
+            record { passage = one-more (shown-as Request c w mine) (x .passage); ending = x .ending; kept = x .kept };
         fine = still-fine Request c w (r .course .transmissions) (r .fine);
         plain = r .plain;
         refused-keeps = r .refused-keeps;
@@ -169,7 +195,7 @@ module _ (out : List ℕ) (room : callOutput ≤ length out) (form : Form) (z : 
             let parts = there-parts (suc p) (suc q ∷ ahead) net all in
             let x = r .whole (parts .1) (there-both (suc p) back net (parts .0) passed) verdict in
             record {
-              passage = one-more (heard-as Request c w mine) (x .passage);
+              passage = one-more (shown-as Request c w mine) (x .passage);
               telegrams = one-more refl (x .telegrams);
               ending = x .ending;
               written = x .written;

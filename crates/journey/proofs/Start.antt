@@ -1,7 +1,7 @@
 -- The journey of any telegram without a fault in its header, and what holds of it.
 -- Assumes nothing.
 use mathlib.Core.Path.{_≡_, refl, sym, _∙_, ap, subst}
-use mathlib.Core.Logic.{_⊎_, inl}
+use mathlib.Core.Logic.{_⊎_, inl, inr}
 use mathlib.Core.Bool.{Bool, true, false}
 use mathlib.Core.List.{List, [], _∷_, _++_, reverse, reverse-reverse, append-nil}
 use Prim.Native.Nat.{ℕ, zero, suc, _+_, _*_, _≤_}
@@ -19,8 +19,8 @@ use Rattle.mop_header.specs.declared.Function.the-variants.{Request, Reply}
 use Rattle.mop_header.specs.declared.Reader.the-variants.{Station}
 use Rattle.mop_header.proofs.Marks.{agrees-remarked}
 use Rattle.mop_header.proofs.ReadBack.{is-written}
-use Rattle.mop_station.specs.Body.{accepts, judgedBody}
-use Rattle.journey.specs.Net.{Net, goodNet, isThere, allThere, withTable}
+use Rattle.mop_station.specs.Body.{accepts, rejects, judgedBody}
+use Rattle.journey.specs.Net.{Net, goodNet, isThere, allThere}
 use Rattle.journey.specs.Journey.{Ending, atZero, atNobody, refusedWith, Course, unheard, onward, callOutput, Journey}
 use Rattle.journey.specs.Terms.{m, Fresh, beforeZeros, allOrdinary, allFine}
 use Rattle.journey.proofs.Ring.{last-at, before-zeros, none-passed}
@@ -28,12 +28,13 @@ use Rattle.journey.proofs.Telegrams.{telegramFor, length-read, Faultles
 use Rattle.journey.proofs.Steps.{ends-zero, stop-nobody, hop-reply}
 use Rattle.journey.proofs.Positions.{first-ahead, length-spread}
 use Rattle.journey.proofs.Homeward.{home}
-use Rattle.journey.proofs.Passage.{Fulfilled, Out, requested}
+use Rattle.journey.proofs.Passage.{Fulfilled, Carries, Stopped, Out, requested}
 
 -- what holds of the journey of a telegram with this header and body
 pub record Ran (net : Net) (h : Head) (body : List ℕ) (d : Course) : Type 0 where
   pub most : 1 ≤ m h → length (d .transmissions) ≤ 2 * m h
-  pub changes : (d .after ≡ net) ⊎ ((t : List ℕ) × (d .after ≡ withTable (beforeZeros (h .block)) t net))
+  pub changes : (d .after ≡ net) ⊎ ((h .function ≡ Request) × Carries net (beforeZeros (h .block)) body (d .after))
+  pub stopped : Fresh h → allThere (stations (h .block)) net ≡ true → (k : ℕ) → judgedBody body ≡ rejects k → Stopped net body (stations (h .block)) k d
   pub fine : allFine (d .transmissions) ≡ true
   pub plain : allOrdinary (d .answers) ≡ true
   pub refused-keeps : (k : ℕ) → d .ending ≡ refusedWith k → d .after ≡ net
@@ -74,7 +75,7 @@ all-none net = refl
 suc-zero : {n : ℕ} → suc n ≡ 0 → ⊥
 suc-zero e = omega arith
 
--- one transmission that no station hears
+-- one transmission that no station shows
 ran-alone : (net : Net) (h : Head) (body tg : List ℕ) (e : Ending) → allFine (tg ∷ []) ≡ true → (Fresh h → ⊥) → Ran net h body (unheard tg net e)
 ran-alone net h body tg e well stale = record {
   most = λ some. most-alone (m h) some;
@@ -82,8 +83,13 @@ ran-alone net h body tg e well stale = record {
   fine = well;
   plain = refl;
   refused-keeps = λ k refusal. refl;
+  stopped = λ fresh. absurd (stale fresh);
   fresh = λ fresh. absurd (stale fresh);
 }
+
+by-request : {A B : Type 0} → A ⊎ B → A ⊎ ((Request ≡ Request) × B)
+by-request (inl x) = inl x
+by-request (inr x) = inr (refl, x)
 
 -- of a fresh request nothing is passed yet
 module _ (net : Net) (c : ℕ) (form : Form) (body : List ℕ) (p z : ℕ) {ahead : List ℕ} (f : Full ahead) where
@@ -95,6 +101,17 @@ module _ (net : Net) (c : ℕ) (form : Form) (body : List ℕ) (p z : ℕ) {ahea
       (sym (stations-spread z (cons {a = p} f) nil ∙ append-nil (suc p ∷ ahead)))
       (λ all verdict. o .whole all (all-none net) verdict)
   fresh-out (cons {a = a} {xs = back} g) o fresh =
+      let b = spread (suc p ∷ ahead) z (reverse (suc a ∷ back)) in
+      let none : reverse (suc a ∷ back) ≡ [] = none-passed (suc p ∷ ahead) z (full-reverse (cons {a = a} g)) (sym (last-at b) ∙ fresh .last-zero) in
+      absurd (suc-zero (sym (length-reverse (suc a ∷ back)) ∙ ap length none))
+
+  fresh-stopped : {back : List ℕ} → Full back → (let b = spread (suc p ∷ ahead) z (reverse back) in
+      (o : Out net c form b body (suc p ∷ ahead) back) → Fresh (head Request c form b) → allThere (stations b) net ≡ true →
+      (k : ℕ) → judgedBody body ≡ rejects k → Stopped net body (stations b) k (o .course))
+  fresh-stopped nil o fresh =
+      subst (λ (l : List ℕ). allThere l net ≡ true → (k : ℕ) → judgedBody body ≡ rejects k → Stopped net body l k (o .course))
+      (sym (stations-spread z (cons {a = p} f) nil ∙ append-nil (suc p ∷ ahead))) (o .stopped)
+  fresh-stopped (cons {a = a} {xs = back} g) o fresh =
       let b = spread (suc p ∷ ahead) z (reverse (suc a ∷ back)) in
       let none : reverse (suc a ∷ back) ≡ [] = none-passed (suc p ∷ ahead) z (full-reverse (cons {a = a} g)) (sym (last-at b) ∙ fresh .last-zero) in
       absurd (suc-zero (sym (length-reverse (suc a ∷ back)) ∙ ap length none))
@@ -128,6 +145,7 @@ module _ (out : List ℕ) (room : callOutput ≤ length out) (net : Net) (fit : 
             fine = still-fine Reply c w (r .course .transmissions) (r .fine);
             plain = r .plain;
             refused-keeps = λ k e. r .kept;
+            stopped = λ fresh. absurd (reply-request (fresh .request));
             fresh = λ fresh. absurd (reply-request (fresh .request));
           };
         }
@@ -143,8 +161,9 @@ module _ (out : List ℕ) (room : callOutput ≤ length out) (net : Net) (fit : 
           ran = record {
             most = λ some.
                 request-most (length (o .course .transmissions)) (length ahead) (length back) (length (stations b)) (named-count p z f g) (o .most);
-            changes = subst (λ (a : ℕ). (o .course .after ≡ net) ⊎ ((t : List ℕ) × (o .course .after ≡ withTable a t net)))
-                (sym (before-zeros p z f (full-reverse g))) (o .changes);
+            changes = by-request (subst (λ (a : ℕ). (o .course .after ≡ net) ⊎ Carries net a body (o .course .after))
+                (sym (before-zeros p z f (full-reverse g))) (o .changes));
+            stopped = fresh-stopped net c form body p z f g o;
             fine = o .fine;
             plain = o .plain;
             refused-keeps = o .refused-keeps;

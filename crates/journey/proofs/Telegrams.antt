@@ -1,4 +1,4 @@
--- The telegrams of a journey: what makes one faultless, how it is heard, and what is sent of it.
+-- The telegrams of a journey: what makes one faultless, how it is shown, and what is sent of it.
 -- Assumes nothing.
 use mathlib.Core.Path.{_≡_, refl, _∙_, ap, ap₂}
 use mathlib.Core.Bool.{true, _&&_}
@@ -21,7 +21,7 @@ use Rattle.mop_header.proofs.Marks.{remarked-agrees, remarked-block, marked-twi
 use Rattle.mop_header.proofs.ReadBack.{reads-back, body-behind}
 use Rattle.mop_header.proofs.Writing.{length-telegram}
 use Rattle.mop_station.specs.Station.{replied}
-use Rattle.journey.specs.Terms.{hears, heardIn, heard, isFine, allFine}
+use Rattle.journey.specs.Terms.{shows, shownIn, shown, isFine, allFine}
 
 -- a telegram with the mark that its block asks for
 abbrev pub telegramFor : Function → ℕ → Form → List ℕ → List ℕ → List ℕ
@@ -67,11 +67,11 @@ module _ (f : Function) (c : ℕ) {form : Form} {b body : List ℕ} (w : Faultle
   pub still-fine : (rest : List (List ℕ)) → allFine rest ≡ true → allFine (telegramFor f c form b body ∷ rest) ≡ true
   still-fine rest e = ap (λ (r : Reading). isFine (r .finding) && allFine rest) reads-well ∙ e
 
-  pub heard-as : {a : ℕ} → first b ≡ a → heard (telegramFor f c form b body) ≡ hears f a body
+  pub shown-as : {a : ℕ} → first b ≡ a → shown (telegramFor f c form b body) ≡ shows f a body
   unfolding remarked
-  heard-as e =
+  shown-as e =
       let h = remarked (head f c form b) in
-      ap (λ (r : Reading). heardIn (r .finding) (r .header) (telegramOf h body)) reads-well ∙ ap₂ (hears f) e (body-behind h body)
+      ap (λ (r : Reading). shownIn (r .finding) (r .header) (telegramOf h body)) reads-well ∙ ap₂ (shows f) e (body-behind h body)
 
   pub first-is : {a : ℕ} → first b ≡ a → first (remarked (head f c form b) .block) ≡ a
   first-is e = ap first (remarked-block (head f c form b)) ∙ e

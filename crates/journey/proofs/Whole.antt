@@ -16,19 +16,22 @@ use Rattle.mop_header.proofs.Lengths.{sized-most}
 use Rattle.mop_header.proofs.ReadBack.{is-written, reading-fine}
 use Rattle.journey.specs.Net.{Net, goodNet, isThere, tableAt, withTable}
 use Rattle.journey.specs.Journey.{Ending, atNobody, refusedWith, Course, unheard, callOutput, Journey}
-use Rattle.journey.specs.Terms.{m, beforeZeros}
-use Rattle.journey.specs.Demand3.{Demand3, TheJourney, EveryJourney}
+use Rattle.journey.specs.Terms.{m, beforeZeros, Written}
+use Rattle.journey.specs.Demand3.{Carried, Demand3, TheJourney, EveryJourney}
 use Rattle.journey.specs.Transmissions.{ByteForByte}
 use Rattle.journey.specs.Bounded.{mostTransmissions, PlaysTheJourney}
-use Rattle.journey.proofs.Net.{table-other}
+use Rattle.journey.proofs.Net.{table-other, table-same, good-table}
+use Rattle.journey.proofs.Passage.{Carries}
+use Rattle.mop_header.specs.declared.Function.the-variants.{Request}
+use Rattle.mop_station.specs.Body.{afterWrites}
 use Rattle.journey.proofs.Calls.{call-fault}
 use Rattle.journey.proofs.Ring.{none-named, some-named}
 use Rattle.journey.proofs.Unique.{unique}
 use Rattle.journey.proofs.Bounded.{plays}
 use Rattle.journey.proofs.Steps.{ends-faulty, ends-zero, ends-nobody}
-use Rattle.journey.proofs.Courses.{stations-stay, last-refused}
+use Rattle.journey.proofs.Courses.{stations-stay, given-by, last-refused}
 use Rattle.journey.proofs.Start.{Ran, Start, start}
-use Rattle.journey.proofs.Fresh.{fulfilled, in-bytes}
+use Rattle.journey.proofs.Fresh.{writes-all, fulfilled, in-bytes}
 
 -- a first entry that is an address, but nobody's
 nobody-first : (net : Net) (tg : List ℕ) (h : Head) → reading Station tg ≡ sound h →
@@ -37,9 +40,26 @@ nobody-first net tg h order zero e n none = absurd (n refl)
 nobody-first net tg h order (suc p) e n none = ends-nobody net tg h order p e none
 
 -- where one table at most changed, the others are as before
-other-kept : (net after : Net) (a d : ℕ) → (after ≡ net) ⊎ ((t : List ℕ) × (after ≡ withTable d t net)) → (a ≡ d → ⊥) → tableAt a after ≡ tableAt a net
-other-kept net after a d (inl e) n = ap (tableAt a) e
-other-kept net after a d (inr x) n = ap (tableAt a) (x .1) ∙ table-other d a (x .0) net n
+other-kept : {F : Type 0} (net after : Net) (a d : ℕ) (body : List ℕ) → (after ≡ net) ⊎ (F × Carries net d body after) → (a ≡ d → ⊥) → tableAt a after ≡ tableAt a net
+other-kept net after a d body (inl e) n = ap (tableAt a) e
+other-kept net after a d body (inr x) n = ap (tableAt a) (x .1 .is) ∙ table-other d a (afterWrites body (tableAt d net)) net n
+
+-- the one that changed has the values of the body
+changed : (net : Net) → goodNet net ≡ true → (h : Head) (body : List ℕ) (c : Course) →
+    (c .after ≡ net) ⊎ ((h .function ≡ Request) × Carries net (beforeZeros (h .block)) body (c .after)) → (c .after ≡ net) ⊎ Carried net h body c
+changed net fit h body c (inl e) = inl e
+changed net fit h body c (inr x) =
+    let a = beforeZeros (h .block) in
+    let y = x .1 in
+    let t = afterWrites body (tableAt a net) in
+    let now : tableAt a (c .after) ≡ t = ap (tableAt a) (y .is) ∙ table-same a t net (y .there) in
+    inr (record {
+      request = x .0;
+      accepted = y .accepted;
+      written = subst (λ (u : List ℕ). Written body (tableAt a net) u) (sym now)
+          (writes-all body (tableAt a net) (y .accepted) (good-table a net fit (y .there)));
+      others = y .is ∙ ap (λ (u : List ℕ). withTable a u net) (sym now);
+    })
 
 -- whatever journey it is
 module _ (net : Net) (tg : List ℕ) (fit : goodNet net ≡ true) where
@@ -62,9 +82,13 @@ module _ (net : Net) (tg : List ℕ) (fit : goodNet net ≡ true) where
     nobodys-first = λ h order n none. unique j (nobody-first net tg h order (first (h .block)) refl n none);
     at-most = λ h order some. ran j h order .most some;
     refused-last = λ earlier later k e. last-refused later k j earlier e;
+    refused-by = λ h order k e. given-by j (ran j h order .fine) k e;
     accomplished = λ h order fresh all verdict.
         fulfilled net h (bodyOf h tg) c (ran j h order .fresh fresh all verdict) fit (some-named (h .block) (fresh .first-named)) all verdict;
-    others-kept = λ h order a n. other-kept net (c .after) a (beforeZeros (h .block)) (ran j h order .changes) n;
+    declined = λ h order fresh all k verdict.
+        let x = ran j h order .stopped fresh all k verdict in record { passage = x .passage; ending = x .ending; kept = x .kept };
+    changes = λ h order. changed net fit h (bodyOf h tg) c (ran j h order .changes);
+    others-kept = λ h order a n. other-kept net (c .after) a (beforeZeros (h .block)) (bodyOf h tg) (ran j h order .changes) n;
     same-stations = stations-stay j;
     refused-keeps = refused-kept j (reading Station tg .finding) refl;
     all-fine = λ h order. ran j h order .fine;

@@ -26,7 +26,7 @@ abbrev pub heardBy : (Net → List ℕ → Course) → Net → List ℕ → Hand
 heardBy rest net tg (noStation e) = unheard tg net e
 heardBy rest net tg (station a t) = called rest net tg a (calling a t tg)
 
--- at most so many calls. Where none is left the journey is given as ended; the bound below is never used up
+-- at most so many transmissions are looked at. Where none is left the journey is given as ended; the bound below is never used up
 unfoldable pub playing : ℕ → Net → List ℕ → Course
 playing zero net tg = unheard tg net atZero
 playing (suc calls) net tg = heardBy (playing calls) net tg (handler net tg)

@@ -3,27 +3,44 @@
 use Prim.Native.Nat.{ℕ, suc, _+_, _*_, _≤_}
 use mathlib.Core.Path.{_≡_}
 use mathlib.Core.Bool.{true, false}
-use mathlib.Core.List.{List, _∷_, _++_, map}
+use mathlib.Core.Logic.{_⊎_}
+use mathlib.Core.List.{List, [], _∷_, _++_, map}
 use lib.ListN.{length}
 use Rattle.registers.specs.Rows.{tableLength}
 use Rattle.mop_block.specs.Block.{isAddress, stations, first}
 use Rattle.mop_header.specs.Header.{Head, bodyOf}
 use Rattle.mop_header.specs.Reading.{fault, sound, reading}
 use Rattle.mop_header.specs.declared.Reader.the-variants.{Station}
-use Rattle.mop_station.specs.Body.{accepts, judgedBody, replyBody}
+use Rattle.mop_station.specs.Body.{accepts, rejects, judgedBody, replyBody}
 use Rattle.mop_station.specs.Station.{Handled, refuses, leaving, handling}
 use Rattle.journey.specs.Net.{Net, addressesOf, goodNet, isThere, allThere, tableAt, withTable}
-use Rattle.journey.specs.Terms.{m, Fresh, beforeZeros, heard, thereAndBack, Written, destination, allOrdinary, allFine}
+use Rattle.mop_header.specs.declared.Function.the-variants.{Request}
+use Rattle.journey.specs.Terms.{m, Fresh, beforeZeros, shows, shown, thereAndBack, Written, destination, allOrdinary, allFine}
 use Rattle.journey.specs.Journey.{atZero, atNobody, refusedWith, Course, unheard, Journey}
 
 -- what the journey of a fresh request comes to whose stations are all there and whose destination accepts the body. The replies
 -- carry the read start and count as they came, and the values that the read run has after the writes
 pub record Accomplished (net : Net) (h : Head) (body : List ℕ) (c : Course) : Type 0 where
   pub count : length (c .transmissions) ≡ 2 * m h
-  pub passage : map heard (c .transmissions) ≡ thereAndBack (stations (h .block)) body (replyBody body (tableAt (destination h) (c .after)))
+  pub passage : map shown (c .transmissions) ≡ thereAndBack (stations (h .block)) body (replyBody body (tableAt (destination h) (c .after)))
   pub ending : c .ending ≡ atZero
   pub written : Written body (tableAt (destination h) net) (tableAt (destination h) (c .after))
   pub others : c .after ≡ withTable (destination h) (tableAt (destination h) (c .after)) net
+
+-- what the journey of a fresh request comes to whose stations are all there and whose destination refuses the body with k: m
+-- requests, the last of them refused, and no table changed
+pub record Declined (net : Net) (h : Head) (body : List ℕ) (k : ℕ) (c : Course) : Type 0 where
+  pub passage : map shown (c .transmissions) ≡ map (λ (a : ℕ). shows Request a body) (stations (h .block))
+  pub ending : c .ending ≡ refusedWith k
+  pub kept : c .after ≡ net
+
+-- the one change that a journey can make, fresh or not: of a request that the station before the block's 00s accepts, that
+-- station has the values of the body
+pub record Carried (net : Net) (h : Head) (body : List ℕ) (c : Course) : Type 0 where
+  pub request : h .function ≡ Request
+  pub accepted : judgedBody body ≡ accepts
+  pub written : (let a = beforeZeros (h .block) in Written body (tableAt a net) (tableAt a (c .after)))
+  pub others : (let a = beforeZeros (h .block) in c .after ≡ withTable a (tableAt a (c .after)) net)
 
 pub record Demand3 (net : Net) (tg : List ℕ) (c : Course) : Type 0 where
   -- a telegram with a fault of 12 or 2 to 6 is refused alike by every station, the journey ends with it, and nothing changes
@@ -40,15 +57,22 @@ pub record Demand3 (net : Net) (tg : List ℕ) (c : Course) : Type 0 where
   -- after a refused one none follows: if the station called with transmission i + 1 refuses, there are i + 1 in all
   pub refused-last : (earlier later : List Handled) (k : ℕ) → c .answers ≡ earlier ++ (refuses k ∷ later) →
       length (c .transmissions) ≡ suc (length earlier)
-  -- a fresh request, all m stations there, accepted
+  -- a fresh request, all m stations there: its destination accepts it, or rejects it with k
   pub accomplished : (h : Head) → reading Station tg ≡ sound h → Fresh h → allThere (stations (h .block)) net ≡ true →
       judgedBody (bodyOf h tg) ≡ accepts → Accomplished net h (bodyOf h tg) c
-  -- whatever came first, no table changes but that of the station before the block's 00s
+  pub declined : (h : Head) → reading Station tg ≡ sound h → Fresh h → allThere (stations (h .block)) net ≡ true →
+      (k : ℕ) → judgedBody (bodyOf h tg) ≡ rejects k → Declined net h (bodyOf h tg) k c
+  -- whatever came first, accepted or not, no table changes but that of the station before the block's 00s
   pub others-kept : (h : Head) → reading Station tg ≡ sound h → (a : ℕ) → (a ≡ beforeZeros (h .block) → ⊥) →
       tableAt a (c .after) ≡ tableAt a net
+  -- and that one only by the values of a request that it accepts
+  pub changes : (h : Head) → reading Station tg ≡ sound h → (c .after ≡ net) ⊎ Carried net h (bodyOf h tg) c
+  -- no station comes or goes
   pub same-stations : addressesOf (c .after) ≡ addressesOf net
-  -- where a station refuses, no table has changed at all
+  -- where the journey ends with a refusal no table has changed; and unless the first telegram has a fault, a called station gave it
   pub refused-keeps : (k : ℕ) → c .ending ≡ refusedWith k → c .after ≡ net
+  pub refused-by : (h : Head) → reading Station tg ≡ sound h → (k : ℕ) → c .ending ≡ refusedWith k →
+      (earlier : List Handled) × (c .answers ≡ earlier ++ (refuses k ∷ []))
   -- if the first telegram is without a fault of 12 or 2 to 6, so is every transmission; and no called station gives 1, 11, 12, 2
   -- to 6 or "not mine"
   pub all-fine : (h : Head) → reading Station tg ≡ sound h → allFine (c .transmissions) ≡ true

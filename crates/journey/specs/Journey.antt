@@ -37,7 +37,7 @@ unfoldable pub handler : Net → List ℕ → Handler
 handler net tg = addressee (reading Station tg .finding) (first (reading Station tg .header .block)) net
 
 -- what a journey comes to: its transmissions in order, the first telegram included; what the stations called with them gave,
--- in the same order; the net afterwards; and how it ended
+-- one for each but a last one that no station was called with; the net afterwards; and how it ended
 pub record Course : Type 0 where
   pub transmissions : List (List ℕ)
   pub answers : List Handled

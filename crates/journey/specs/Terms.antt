@@ -20,7 +20,7 @@ use Rattle.mop_station.specs.Station.{Handled, sent, notMine, refuses}
 abbrev pub m : Head → ℕ
 m h = length (stations (h .block))
 
--- "fresh": a request whose first block entry is not 00, and whose last one is
+-- "fresh", of a telegram without a fault in its header: a request whose first block entry is not 00, and whose last one is
 pub record Fresh (h : Head) : Type 0 where
   pub request : h .function ≡ Request
   pub first-named : first (h .block) ≡ 0 → ⊥
@@ -39,22 +39,22 @@ abbrev pub beforeZeros : List ℕ → ℕ
 beforeZeros b = beforeZero (around b)
 
 -- what is read off a transmission: request or reply, the first block entry, and the body
-pub data Heard : Type 0 where
-  hears : Function → ℕ → List ℕ → Heard
-  noise : Heard
+pub data Shown : Type 0 where
+  shows : Function → ℕ → List ℕ → Shown
+  unreadable : Shown
 
-abbrev pub heardIn : Finding → Head → List ℕ → Heard
-heardIn fine h tg = hears (h .function) (first (h .block)) (bodyOf h tg)
-heardIn (fault k) h tg = noise
+abbrev pub shownIn : Finding → Head → List ℕ → Shown
+shownIn fine h tg = shows (h .function) (first (h .block)) (bodyOf h tg)
+shownIn (fault k) h tg = unreadable
 
-abbrev pub heard : List ℕ → Heard
-heard tg = heardIn (reading Station tg .finding) (reading Station tg .header) tg
+abbrev pub shown : List ℕ → Shown
+shown tg = shownIn (reading Station tg .finding) (reading Station tg .header) tg
 
 -- out in order and back in reverse: requests with stations 1 to m first, then replies with stations m - 1 down to 1 first, and
 -- at last one with 00 first
-abbrev pub thereAndBack : List ℕ → List ℕ → List ℕ → List Heard
+abbrev pub thereAndBack : List ℕ → List ℕ → List ℕ → List Shown
 thereAndBack route body reply =
-    map (λ (a : ℕ). hears Request a body) route ++ map (λ (a : ℕ). hears Reply a reply) (tail (reverse route) ++ (0 ∷ []))
+    map (λ (a : ℕ). shows Request a body) route ++ map (λ (a : ℕ). shows Reply a reply) (tail (reverse route) ++ (0 ∷ []))
 
 -- the table of a destination that carried out a body: the written values in order from the write start, all others as before
 pub record Written (body before after : List ℕ) : Type 0 where

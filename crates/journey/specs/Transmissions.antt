@@ -29,7 +29,7 @@ abbrev pub homeward : ℕ → List ℕ → List (List ℕ)
 homeward zero b = []
 homeward (suc k) b = rollRight b ∷ homeward k (rollRight b)
 
--- a request on its way, and a reply on its way: a new control byte, and the mark that its block asks for
+-- a request on its way keeps control byte and form; a reply has a new control byte, and the mark that its block asks for
 abbrev pub requestOn : Head → List ℕ → List ℕ → List ℕ
 requestOn h body b = telegramOf (head Request (h .control) (h .form) b) body
 

@@ -118,8 +118,9 @@ fn call(
 }
 
 // One hop of a journey: the telegram handed to the station that its first block entry names, with that station's table.
-// Ended, and tables and out as they were: refused with 1 for tables that do not fit the addresses, or with 12 or 2 to 6 for
-// the header; at an entry 00; at an address that nobody has. Else what that station does.
+// Ended, and tables and out as they were: refused with 1 for more than 64 addresses or tables that are not 18 values for each,
+// or with 12 or 2 to 6 for the header; at an entry 00; at an address that nobody has. Else what that station does. Of equal
+// addresses the first is called.
 pub fn hop(telegram: &[u8], addresses: &[u8], tables: &mut [u16], out: &mut [u8]) -> HopAnswer
     ensures { λ r. ⌜ hopOf r (now (tables .exit)) (now (out .exit)) ≡ hopping (now (telegram .entry)) (now (addresses .entry)) (now (tables .entry)) (now (out .entry)) ⌝ }
 {
@@ -145,7 +146,8 @@ fn clear_from(from: usize, out: &mut [u8])
     places::put(&zeros[from..RUN_OUTPUT], &mut *out, from)
 }
 
-// The journey of a telegram. The first places of out hold the telegram on the way, and another buffer takes what is sent.
+// The journey of a telegram. The first places of out hold the telegram on the way, and another buffer takes what is sent. The
+// loop never uses up its turns, since no journey has more transmissions; so the answer behind it is never given.
 fn play(telegram: &[u8], addresses: &[u8], tables: &mut [u16], out: &mut [u8]) -> DryRunAnswer
     requires { ⌜ tablesFit (now addresses) (now tables) ≡ true ⌝ }
     requires { ⌜ length (now telegram) ≤ runOutput ⌝ }

@@ -1,4 +1,4 @@
--- Runs: registers with numbers that follow one another, from a start on.
+-- "Runs": registers with numbers that follow one another, from a start on.
 -- Assumes nothing.
 use Prim.Native.Nat.{ℕ, zero, suc, _≤_}
 use mathlib.Core.Path.{_≡_}

@@ -34,7 +34,8 @@ reportOf r tables out = leaves (givenOf r) tables out
 unfoldable pub tells : List ℕ → List ℕ → List ℕ → Report
 tells text tables out = leaves (filled (length text)) tables (placed text out)
 
--- the places that the longest text may need: a line has at most 102 characters, and 63 lines and the last one are under 6,500
+-- the places that a report asks for: 62 lines of at most 102 characters, one more that the code could write behind its loop, and
+-- the last one are under 6,500
 abbrev pub reportOutput : ℕ
 reportOutput = 6500
 

@@ -9,7 +9,7 @@ use lib.ListN.{length, getD, replicate, length-replicate, drop-of-length-le}
 use Prim.Native.Nat.{ℕ, suc, _-_, _≤_}
 use native.Mathlib.Omega.{arith}
 use Rattle.base.specs.Places.{placed}
-use Rattle.base.specs.Filling.{filled, fitted}
+use Rattle.base.specs.Filling.{fitted}
 use Rattle.base.specs.Words.{wordsOf, bytesOf}
 use Rattle.link_frame.specs.Frame.{sent, doubled, xorOver, checked, checkByte, frameOf, framing}
 use Rattle.link_receive.specs.Receive.{against, afterStore, byteOf, dataOf, eventOf, insideOf, noRoom, receiveOf, restOf, storeOf, waitingOf}
@@ -29,8 +29,8 @@ use Rattle.journey.specs.Bounded.{calling, playing, mostTransmissions}
 use Rattle.journey.proofs.Whole.{plays-the-journey}
 use Rattle.net.specs.Tables.{netOf, tablesOf, tablesFit, setUp}
 use Rattle.net.specs.DryRun.{runOutput, played, leaves, lastTelegram, padded, ofCourse, dryRun}
-use Rattle.report.specs.Text.{hexDigit, hexBytes, decimal, line, lines, sentText, endingText, closing, courseText}
-use Rattle.report.specs.Report.{reportOutput, reporting}
+use Rattle.report.specs.Text.{hexDigit, hexBytes, decimal, line, lines, sentText, endingText, closing, courseText, refusedText, outrightText}
+use Rattle.report.specs.Report.{reportOutput, reporting, toldOf}
 use Rattle.report.specs.Report as report
 use Rattle.report.proofs.Journeys.{tells-the-journey}
 use Rattle.net.proofs.Tables.{good-net}
@@ -91,6 +91,11 @@ module _ (addresses tg : List ℕ) (set : setUp addresses (factoryTables address
         ∙ ap (λ (l : List ℕ). report.tells l (tablesOf (course .after)) (replicate reportOutput 0)) e;
   }
 
+outright-by : (addresses tg text : List ℕ) →
+    reporting tg addresses (factoryTables addresses) (replicate reportOutput 0) ≡ report.tells text (factoryTables addresses) (replicate reportOutput 0) →
+    Tells addresses tg text
+outright-by addresses tg text e = record { tables = factoryTables addresses; told = e }
+
 suc-zero : {n : ℕ} → suc n ≡ 0 → ⊥
 suc-zero e = omega arith
 
@@ -109,7 +114,7 @@ promised-by addresses tg net order request named last there verdict = record {
 }
 
 pub worked-cases : WorkedCases
-unfolding placed fitted wordsOf bytesOf sent doubled xorOver checked checkByte frameOf framing against afterStore byteOf dataOf eventOf insideOf noRoom receiveOf restOf storeOf waitingOf feed tableLength placeOf exists mayWrite takes factory runExists runMayWrite runTakes writes reads isAddress has distinctAddresses stations zeroEnds around goodBlock first next rolled rollLeft rollRight addressBytes headerBytes headerLength telegramOf bodyOf mayBegin isMark markByte markIs withMark markAgrees remarked rolledLeft rolledRight asReply sentBack allowed functionAt goodFor judged standardReading extendedReading reading judgedRuns judgedBody afterWrites replyWith replyBody sending relayed relaying replied keptBy answering taking hearing handling rightTables goodNet isThere allThere tableAt withTable named addressee handler calling playing netOf tablesOf tablesFit setUp lastTelegram padded hexDigit hexBytes decimal line lines sentText endingText closing courseText
+unfolding placed fitted wordsOf bytesOf sent doubled xorOver checked checkByte frameOf framing against afterStore byteOf dataOf eventOf insideOf noRoom receiveOf restOf storeOf waitingOf feed tableLength placeOf exists mayWrite takes factory runExists runMayWrite runTakes writes reads isAddress has distinctAddresses stations zeroEnds around goodBlock first next rolled rollLeft rollRight addressBytes headerBytes headerLength telegramOf bodyOf mayBegin isMark markByte markIs withMark markAgrees remarked rolledLeft rolledRight asReply sentBack allowed functionAt goodFor judged standardReading extendedReading reading judgedRuns judgedBody afterWrites replyWith replyBody sending relayed relaying replied keptBy answering taking hearing handling rightTables goodNet isThere allThere tableAt withTable named addressee handler calling playing netOf tablesOf tablesFit setUp lastTelegram padded hexDigit hexBytes decimal line lines sentText endingText closing courseText refusedText outrightText toldOf reporting
 worked-cases =
     refl also refl also refl also refl also refl also refl also refl also refl also refl also refl also refl also refl also refl also refl also refl also refl
     also refl also refl also travels-by _ _ refl refl _ _ _ refl refl refl refl
@@ -118,4 +123,9 @@ worked-cases =
     also travels-by _ _ refl refl _ _ _ refl refl refl refl
     also travels-by _ _ refl refl _ _ _ refl refl refl refl
     also promised-by _ _ refl refl refl suc-zero refl refl refl
+    also tells-by _ _ refl refl _ refl
+    also travels-by _ _ refl refl _ _ _ refl refl refl refl
+    also tells-by _ _ refl refl _ refl
+    also travels-by _ _ refl refl _ _ _ refl refl refl refl
+    also outright-by _ _ _ refl
     also none
