@@ -4,21 +4,37 @@ use libc::STDIN_FILENO;
 use libc::STDOUT_FILENO;
 use refusal::WriteAnswer;
 use registers::TABLE_LENGTH;
+ghost use mathlib.Core.Path.{_≡_};
+ghost use mathlib.Core.List.{_++_};
+ghost use Prim.Native.Nat.{_+_, _≤_};
+ghost use lib.ListN.{length};
+ghost use lib.Seq.{sets};
+ghost use Rattle.registers.specs.Rows.{factory};
 
 // The places of the tables of three stations.
 const PLACES: usize = 3 * TABLE_LENGTH;
 
-// The tables of three stations as they leave the factory, end to end.
-fn factory_tables() -> [u16; PLACES] {
-    let values = registers::factory();
-    let mut tables = [0u16; PLACES];
+// Copies the values to the places of the tables from `at` on.
+fn put_values(values: &[u16], tables: &mut [u16], at: usize)
+    requires { ⌜ at + length (now values) ≤ length (now tables) ⌝ }
+    ensures { λ r. ⌜ now (tables .exit) ≡ sets (now (tables .entry)) at (now (values .entry)) ⌝ }
+{
     let mut i: usize = 0;
-    while i < TABLE_LENGTH {
-        tables[i] = values[i];
-        tables[i + TABLE_LENGTH] = values[i];
-        tables[i + 2 * TABLE_LENGTH] = values[i];
+    while i < values.len() {
+        tables[at + i] = values[i];
         i += 1;
     }
+}
+
+// The tables of three stations as they leave the factory, end to end.
+fn factory_tables() -> [u16; PLACES]
+    ensures { λ r. ⌜ r ≡ factory ++ (factory ++ factory) ⌝ }
+{
+    let values = registers::factory();
+    let mut tables = [0u16; PLACES];
+    put_values(&values, &mut tables, 0);
+    put_values(&values, &mut tables, TABLE_LENGTH);
+    put_values(&values, &mut tables, 2 * TABLE_LENGTH);
     tables
 }
 
