@@ -1,5 +1,5 @@
-// A program: the telegram on standard input is played over the three stations 12, 13 and 55 (hex) with factory values, and its
-// journey is told on standard output.
+// A program: the telegram on standard input is played over three stations, which have factory values and, in hex, the addresses
+// 12, 13 and 55; its journey is told on standard output.
 use libc::STDIN_FILENO;
 use libc::STDOUT_FILENO;
 use refusal::WriteAnswer;

@@ -43,7 +43,8 @@ pub record Carried (net : Net) (h : Head) (body : List ℕ) (c : Course) : Type 
   pub others : (let a = beforeZeros (h .block) in c .after ≡ withTable a (tableAt a (c .after)) net)
 
 pub record Demand3 (net : Net) (tg : List ℕ) (c : Course) : Type 0 where
-  -- a telegram with a fault of 12 or 2 to 6 is refused alike by every station, the journey ends with it, and nothing changes
+  -- a fault in the header, 12 or one of 2 to 6: every station refuses the telegram in the same way, the journey ends with it, and
+  -- nothing changes
   pub fault-refused : (k : ℕ) → reading Station tg .finding ≡ fault k → (own : ℕ) (t out : List ℕ) → isAddress own ≡ true → length t ≡ tableLength →
       handling own t tg out ≡ leaving (refuses k) t out
   pub fault-ends : (k : ℕ) → reading Station tg .finding ≡ fault k → c ≡ unheard tg net (refusedWith k)
@@ -62,7 +63,7 @@ pub record Demand3 (net : Net) (tg : List ℕ) (c : Course) : Type 0 where
       judgedBody (bodyOf h tg) ≡ accepts → Accomplished net h (bodyOf h tg) c
   pub declined : (h : Head) → reading Station tg ≡ sound h → Fresh h → allThere (stations (h .block)) net ≡ true →
       (k : ℕ) → judgedBody (bodyOf h tg) ≡ rejects k → Declined net h (bodyOf h tg) k c
-  -- whatever came first, accepted or not, no table changes but that of the station before the block's 00s
+  -- accepted or not, and whatever the first telegram was, all tables stay except that of the station before the 00s
   pub others-kept : (h : Head) → reading Station tg ≡ sound h → (a : ℕ) → (a ≡ beforeZeros (h .block) → ⊥) →
       tableAt a (c .after) ≡ tableAt a net
   -- and that one only by the values of a request that it accepts
@@ -73,8 +74,7 @@ pub record Demand3 (net : Net) (tg : List ℕ) (c : Course) : Type 0 where
   pub refused-keeps : (k : ℕ) → c .ending ≡ refusedWith k → c .after ≡ net
   pub refused-by : (h : Head) → reading Station tg ≡ sound h → (k : ℕ) → c .ending ≡ refusedWith k →
       (earlier : List Handled) × (c .answers ≡ earlier ++ (refuses k ∷ []))
-  -- if the first telegram is without a fault of 12 or 2 to 6, so is every transmission; and no called station gives 1, 11, 12, 2
-  -- to 6 or "not mine"
+  -- if the first telegram has no such fault, no transmission has one; and no called station gives 1, 11, 12, 2 to 6 or "not mine"
   pub all-fine : (h : Head) → reading Station tg ≡ sound h → allFine (c .transmissions) ≡ true
   pub all-ordinary : (h : Head) → reading Station tg ≡ sound h → allOrdinary (c .answers) ≡ true
 

@@ -11,7 +11,7 @@ use Rattle.mop_header.specs.declared.Reader.the-variants.{Station}
 use Rattle.mop_station.specs.Station.{Handled, sent, refuses, Handling, handling}
 use Rattle.journey.specs.Net.{Net, isThere, tableAt, withTable}
 
--- how a journey ends: at an entry 00, at an address that nobody has, or with the number of a refusal
+-- how a journey ends: with a 00 first, with an address first that nobody has, or with the number of a refusal
 pub data Ending : Type 0 where
   atZero : Ending
   atNobody : Ending

@@ -20,7 +20,7 @@ use Rattle.mop_station.specs.Station.{Handled, sent, notMine, refuses}
 abbrev pub m : Head → ℕ
 m h = length (stations (h .block))
 
--- "fresh", of a telegram without a fault in its header: a request whose first block entry is not 00, and whose last one is
+-- "fresh", of a telegram without a fault in its header: a request whose block begins with a station and ends with a 00
 pub record Fresh (h : Head) : Type 0 where
   pub request : h .function ≡ Request
   pub first-named : first (h .block) ≡ 0 → ⊥
@@ -34,7 +34,7 @@ beforeZero (zero ∷ y ∷ b) = beforeZero (y ∷ b)
 beforeZero (suc a ∷ zero ∷ b) = suc a
 beforeZero (suc a ∷ suc c ∷ b) = beforeZero (suc c ∷ b)
 
--- the station before the block's 00s around the ring
+-- going around the ring, the station before the block's 00s
 abbrev pub beforeZeros : List ℕ → ℕ
 beforeZeros b = beforeZero (around b)
 
@@ -62,7 +62,7 @@ pub record Written (body before after : List ℕ) : Type 0 where
   pub keeps : (j : ℕ) → ((i : ℕ) → i < length (valuesOf body) → j ≡ placeOf (writeStart body + i) → ⊥) → getD after j 0 ≡ getD before j 0
   pub long : length after ≡ length before
 
--- the destination of a fresh request: station m in block order
+-- the destination of a fresh request: the last, in block order, of its m stations
 abbrev pub destination : Head → ℕ
 destination h = getD (stations (h .block)) (m h - 1) 0
 

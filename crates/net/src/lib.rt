@@ -29,7 +29,7 @@ const RUN_OUTPUT: usize = 1024;
 // The most transmissions of a journey: 31 stations, out and back.
 const MOST_TRANSMISSIONS: usize = 62;
 
-// How a journey ends: at an entry 00, at an address that nobody has, or refused by a station.
+// How a journey ends: with a 00 first, with an address first that nobody has, or refused by a station.
 pub enum JourneyEnd {
     AtZero,
     AtNobody,
