@@ -1,7 +1,7 @@
 -- What holds of every journey: the stations stay, and a refusal is the last answer.
 -- Assumes nothing.
-use mathlib.Core.Path.{_≡_, refl, _∙_, ap}
-use mathlib.Core.List.{List, [], _∷_, _++_}
+use mathlib.Core.Path.{_≡_, refl, sym, _∙_, ap}
+use mathlib.Core.List.{List, [], _∷_, _++_, map, tail}
 use mathlib.Core.Bool.{Bool, true, false, and-eq-true-iff}
 use Prim.Native.Nat.{ℕ, zero, suc}
 use native.Mathlib.Omega.{arith}
@@ -13,8 +13,9 @@ use Rattle.mop_header.specs.Reading.{Finding, fine, fault, reading}
 use Rattle.mop_header.specs.declared.Reader.the-variants.{Station}
 use Rattle.journey.specs.Net.{Net, addressesOf, isThere, tableAt}
 use Rattle.journey.specs.Journey.{atNobody, refusedWith, noStation, station, named, addressee, handler, Course, Journey, ends, refused, sends}
-use Rattle.journey.specs.Terms.{isFine, allFine}
+use Rattle.journey.specs.Terms.{sentOnly, isFine, allFine}
 use Rattle.journey.proofs.Net.{addresses-with}
+use Rattle.journey.proofs.Outputs.{sent-length}
 
 pub stations-stay : {net : Net} {tg : List ℕ} {d : Course} → Journey net tg d → addressesOf (d .after) ≡ addressesOf net
 stations-stay (ends e) = refl
@@ -52,6 +53,22 @@ given-by (refused mine out room e) well k is = ([], ap (λ (n : ℕ). refuses n 
 given-by (sends {tg = tg} {n = n} {rest = rest} mine out room e j) well k is =
     let x = given-by j (and-eq-true-iff (isFine (reading Station tg .finding)) (allFine (rest .transmissions)) .0 well .1) k is in
     (sent n ∷ x .0, ap (λ (l : List Handled). sent n ∷ l) (x .1))
+
+-- a journey begins with its telegram, and each next one was sent
+begins : {net : Net} {tg : List ℕ} {d : Course} → Journey net tg d → d .transmissions ≡ tg ∷ tail (d .transmissions)
+begins (ends e) = refl
+begins (refused mine out room e) = refl
+begins (sends mine out room e j) = refl
+
+abbrev sending : List ℕ → Handled
+sending next = sent (length next)
+
+pub sent-each : {net : Net} {tg : List ℕ} {d : Course} → Journey net tg d → sentOnly (d .answers) ≡ map sending (tail (d .transmissions))
+sent-each (ends e) = refl
+sent-each (refused mine out room e) = refl
+sent-each (sends {tg = tg} {t = t} {a = a} {n = n} {rest = rest} mine out room e j) =
+    let long = sym (sent-length a t tg out n room e) in
+    (λ i. sent (long i) ∷ sent-each j i) ∙ ap (map sending) (sym (begins j))
 
 -- lists of answers
 module _ (later : List Handled) (k : ℕ) where

@@ -1,6 +1,6 @@
 -- Every call gives the same with any output that is long enough.
 -- Assumes nothing.
-use mathlib.Core.Path.{_≡_, refl, sym, _∙_, subst}
+use mathlib.Core.Path.{_≡_, refl, sym, _∙_, ap, subst}
 use mathlib.Core.Bool.{Bool, true, false}
 use mathlib.Core.List.{List}
 use Prim.Native.Nat.{ℕ, zero, suc, _≤_}
@@ -108,3 +108,16 @@ same-by own t tg out out₂ room room₂ (sending x after e) =
 pub any-output : (a : ℕ) (t tg out out₂ : List ℕ) → callOutput ≤ length out → callOutput ≤ length out₂ →
     SameCall (handling a t tg out) (handling a t tg out₂)
 any-output a t tg out out₂ room room₂ = same-by a t tg out out₂ room room₂ (by-address a t tg (isAddress a) refl)
+
+-- the bytes sent are as many as the answer says
+long-by : (own : ℕ) (t tg out : List ℕ) (n : ℕ) → callOutput ≤ length out → Call own t tg → handling own t tg out .handled ≡ sent n →
+    length (take n (handling own t tg out .output)) ≡ n
+long-by own t tg out n room (silent v s e) g = absurd (s n (sym (ap (λ (h : Handling). h .handled) (e out room)) ∙ g))
+long-by own t tg out n room (sending x after e) g =
+    let same : length x ≡ n = sent-once (length x) n (sym (ap (λ (h : Handling). h .handled) (e out room)) ∙ g) in
+    subst (λ (m : ℕ). length (take m (handling own t tg out .output)) ≡ m) same
+    (ap (λ (h : Handling). length (take (length x) (h .output))) (e out room) ∙ ap length (take-placed x out))
+
+pub sent-length : (a : ℕ) (t tg out : List ℕ) (n : ℕ) → callOutput ≤ length out → handling a t tg out .handled ≡ sent n →
+    length (take n (handling a t tg out .output)) ≡ n
+sent-length a t tg out n room = long-by a t tg out n room (by-address a t tg (isAddress a) refl)

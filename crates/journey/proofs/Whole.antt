@@ -29,7 +29,7 @@ use Rattle.journey.proofs.Ring.{none-named, some-named}
 use Rattle.journey.proofs.Unique.{unique}
 use Rattle.journey.proofs.Bounded.{plays}
 use Rattle.journey.proofs.Steps.{ends-faulty, ends-zero, ends-nobody}
-use Rattle.journey.proofs.Courses.{stations-stay, given-by, last-refused}
+use Rattle.journey.proofs.Courses.{stations-stay, given-by, last-refused, sent-each}
 use Rattle.journey.proofs.Start.{Ran, Start, start}
 use Rattle.journey.proofs.Fresh.{writes-all, fulfilled, in-bytes}
 
@@ -90,6 +90,7 @@ module _ (net : Net) (tg : List ℕ) (fit : goodNet net ≡ true) where
     changes = λ h order. changed net fit h (bodyOf h tg) c (ran j h order .changes);
     others-kept = λ h order a n. other-kept net (c .after) a (beforeZeros (h .block)) (bodyOf h tg) (ran j h order .changes) n;
     same-stations = stations-stay j;
+    sent-next = sent-each j;
     refused-keeps = refused-kept j (reading Station tg .finding) refl;
     all-fine = λ h order. ran j h order .fine;
     all-ordinary = λ h order. ran j h order .plain;

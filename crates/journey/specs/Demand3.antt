@@ -4,7 +4,7 @@ use Prim.Native.Nat.{ℕ, suc, _+_, _*_, _≤_}
 use mathlib.Core.Path.{_≡_}
 use mathlib.Core.Bool.{true, false}
 use mathlib.Core.Logic.{_⊎_}
-use mathlib.Core.List.{List, [], _∷_, _++_, map}
+use mathlib.Core.List.{List, [], _∷_, _++_, map, tail}
 use lib.ListN.{length}
 use Rattle.registers.specs.Rows.{tableLength}
 use Rattle.mop_block.specs.Block.{isAddress, stations, first}
@@ -12,10 +12,10 @@ use Rattle.mop_header.specs.Header.{Head, bodyOf}
 use Rattle.mop_header.specs.Reading.{fault, sound, reading}
 use Rattle.mop_header.specs.declared.Reader.the-variants.{Station}
 use Rattle.mop_station.specs.Body.{accepts, rejects, judgedBody, replyBody}
-use Rattle.mop_station.specs.Station.{Handled, refuses, leaving, handling}
+use Rattle.mop_station.specs.Station.{Handled, sent, refuses, leaving, handling}
 use Rattle.journey.specs.Net.{Net, addressesOf, goodNet, isThere, allThere, tableAt, withTable}
 use Rattle.mop_header.specs.declared.Function.the-variants.{Request}
-use Rattle.journey.specs.Terms.{m, Fresh, beforeZeros, shows, shown, thereAndBack, Written, destination, allOrdinary, allFine}
+use Rattle.journey.specs.Terms.{m, Fresh, beforeZeros, shows, shown, thereAndBack, Written, destination, sentOnly, allOrdinary, allFine}
 use Rattle.journey.specs.Journey.{atZero, atNobody, refusedWith, Course, unheard, Journey}
 
 -- what the journey of a fresh request comes to whose stations are all there and whose destination accepts the body. The replies
@@ -70,6 +70,8 @@ pub record Demand3 (net : Net) (tg : List ℕ) (c : Course) : Type 0 where
   pub changes : (h : Head) → reading Station tg ≡ sound h → (c .after ≡ net) ⊎ Carried net h (bodyOf h tg) c
   -- no station comes or goes
   pub same-stations : addressesOf (c .after) ≡ addressesOf net
+  -- every transmission behind the first was sent by a called station, which gave its length
+  pub sent-next : sentOnly (c .answers) ≡ map (λ (next : List ℕ). sent (length next)) (tail (c .transmissions))
   -- where the journey ends with a refusal no table has changed; and unless the first telegram has a fault, a called station gave it
   pub refused-keeps : (k : ℕ) → c .ending ≡ refusedWith k → c .after ≡ net
   pub refused-by : (h : Head) → reading Station tg ≡ sound h → (k : ℕ) → c .ending ≡ refusedWith k →

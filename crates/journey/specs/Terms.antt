@@ -76,6 +76,13 @@ abbrev pub allOrdinary : List Handled → Bool
 allOrdinary [] = true
 allOrdinary (a ∷ rest) = ordinary a && allOrdinary rest
 
+-- the answers by which a telegram was sent
+abbrev pub sentOnly : List Handled → List Handled
+sentOnly [] = []
+sentOnly (sent n ∷ rest) = sent n ∷ sentOnly rest
+sentOnly (notMine ∷ rest) = sentOnly rest
+sentOnly (refuses k ∷ rest) = sentOnly rest
+
 -- whether telegrams are without a fault in their headers
 abbrev pub isFine : Finding → Bool
 isFine fine = true
