@@ -23,7 +23,7 @@ const MARK: u8 = 0xEF;
 const NEW_CONTROL: u8 = 0xFF;
 
 // The most bytes of a telegram.
-const MAX_TELEGRAM: usize = 1024;
+pub const MAX_TELEGRAM: usize = 1024;
 
 // The most entries of a block.
 const MAX_ENTRIES: usize = 32;

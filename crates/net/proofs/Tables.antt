@@ -4,7 +4,7 @@ use mathlib.Core.Path.{_≡_, refl, sym, _∙_, ap, ap₂}
 use mathlib.Core.Bool.{Bool, true, false, _||_, and-eq-true-iff}
 use mathlib.Core.List.{List, [], _∷_, _++_, append-assoc}
 use Prim.Native.Nat.{ℕ, suc, _+_, _*_, _≤_, _<_}
-use native.Mathlib.Nat.{add-comm, mul-suc}
+use native.Mathlib.Nat.{add-comm, mul-suc, mul-le-mul-left}
 use native.Mathlib.Omega.{arith}
 use borrow.Author.Tests.{eqb-true, eq-eqb, ltb-true, lt-ltb, lt-leb, le-leb}
 use lib.Dec.{eqb, leb, ltb, leb·suc-suc}
@@ -142,8 +142,9 @@ put-step n t tables =
 -- one of k tables
 module _ (n k : ℕ) (tables : List ℕ) (h : n < k) (e : length tables ≡ tableLength * k) where
   pub length-part : length (partAt n tables) ≡ tableLength
-  unfolding tableLength
-  length-part = length-take-le 18 (drop (18 * n) tables) (omega (arith, length-drop (18 * n) tables))
+  length-part =
+      let ends = mul-le-mul-left {m = suc n} {n = k} tableLength h in
+      length-take-le tableLength (drop (startOf n) tables) (omega (arith, table-step n, ends, length-drop (startOf n) tables))
 
   length-put : (t : List ℕ) → length t ≡ tableLength → length (putAt n t tables) ≡ length tables
   unfolding tableLength

@@ -1,4 +1,5 @@
 // The dry run of a net: the journey of a telegram over tables end to end, played by the station's own code.
+use mop_header::MAX_TELEGRAM;
 use mop_header::Reader;
 use mop_header::Verdict;
 use mop_station::StationAnswer;
@@ -19,9 +20,6 @@ ghost use Rattle.net.specs.DryRun.{dryRunOf, runOutput, padded, ofCourse
 
 // The most stations of a dry run.
 const MAX_STATIONS: usize = 64;
-
-// The most bytes of a telegram.
-const MAX_TELEGRAM: usize = 1024;
 
 // The places of the output that a dry run fills, and asks for.
 const RUN_OUTPUT: usize = 1024;

@@ -1,5 +1,6 @@
 // The text that tells the journey of a telegram, as the program prints it.
 use mop_header::Header;
+use mop_header::MAX_TELEGRAM;
 use mop_header::Reader;
 use mop_header::Verdict;
 use net::HopAnswer;
@@ -20,9 +21,6 @@ ghost use Rattle.net.specs.Hop.{endingOf};
 ghost use Rattle.report.specs.Text.{hexDigit, hexBytes, decimal, line, sentText, refusedText, endingText, closing, outrightText};
 ghost use Rattle.report.specs.Writing.{leftAt, writing};
 ghost use Rattle.report.specs.Report.{leaves, reportOf, toldOf, reporting};
-
-// The most bytes of a telegram.
-const MAX_TELEGRAM: usize = 1024;
 
 // The most transmissions of a journey: 31 stations, out and back.
 const MOST_TRANSMISSIONS: u8 = 62;

@@ -1,7 +1,8 @@
 -- `call`: by the entry; a station that is there is lent the table of its place.
 -- Assumes nothing.
-use mathlib.Core.Path.{_≡_, sym}
-use Prim.Native.Nat.{_+_, _-_, _*_}
+use mathlib.Core.Path.{sym}
+use Prim.Native.Nat.{_*_}
+use native.Mathlib.Nat.{add-sub-cancel-left}
 use native.Mathlib.Omega.{arith}
 use borrow.Author.Needs.{needs}
 use Rattle.registers.specs.Rows.{tableLength}
@@ -66,10 +67,9 @@ returns-3 c =
     let i = h .before .before .before in
     let s = i .before .before .before .before .before .before .before in
     let place = i .before .place-in in
-    let n : 18 * place .result + 18 - 18 * place .result ≡ 18 = omega arith in
     rw (c .hopped .ensures)
     (meet-there (s .args .entry) (s .args .telegram .now) (s .args .addresses .now) (s .args .tables .now) (s .args .out .now)
-    (i .before .before .if1 .left) (s .pre) (place .ensures) (i .if2 .left) n (h .handle .ensures))
+    (i .before .before .if1 .left) (s .pre) (place .ensures) (i .if2 .left) (add-sub-cancel-left (tableLength * place .result) tableLength) (h .handle .ensures))
 
 pub call-spec : {M : Type 1} → statement M
 call-spec =
