@@ -22,6 +22,22 @@ stations-stay (ends e) = refl
 stations-stay (refused {net = net} {tg = tg} {t = t} {a = a} mine out room e) = addresses-with a (handling a t tg out .registers) net
 stations-stay (sends {net = net} {tg = tg} {t = t} {a = a} mine out room e j) = stations-stay j ∙ addresses-with a (handling a t tg out .registers) net
 
+-- a journey begins with its telegram, and each next one was sent
+begins : {net : Net} {tg : List ℕ} {d : Course} → Journey net tg d → d .transmissions ≡ tg ∷ tail (d .transmissions)
+begins (ends e) = refl
+begins (refused mine out room e) = refl
+begins (sends mine out room e j) = refl
+
+abbrev sending : List ℕ → Handled
+sending next = sent (length next)
+
+pub sent-each : {net : Net} {tg : List ℕ} {d : Course} → Journey net tg d → sentOnly (d .answers) ≡ map sending (tail (d .transmissions))
+sent-each (ends e) = refl
+sent-each (refused mine out room e) = refl
+sent-each (sends {tg = tg} {t = t} {a = a} {n = n} {rest = rest} mine out room e j) =
+    let long = sym (sent-length a t tg out n room e) in
+    (λ i. sent (long i) ∷ sent-each j i) ∙ ap (map sending) (sym (begins j))
+
 -- a telegram without a fault that no station is called with ends the journey at 00 or at nobody
 pick-nobody : (t : Bool) (a k : ℕ) (u : List ℕ) → pick t (station a u) (noStation atNobody) ≡ noStation (refusedWith k) → ⊥
 pick-nobody true a k u e = let x : _≡_ {A = ℕ} 0 1 = cc in omega arith
@@ -53,22 +69,6 @@ given-by (refused mine out room e) well k is = ([], ap (λ (n : ℕ). refuses n 
 given-by (sends {tg = tg} {n = n} {rest = rest} mine out room e j) well k is =
     let x = given-by j (and-eq-true-iff (isFine (reading Station tg .finding)) (allFine (rest .transmissions)) .0 well .1) k is in
     (sent n ∷ x .0, ap (λ (l : List Handled). sent n ∷ l) (x .1))
-
--- a journey begins with its telegram, and each next one was sent
-begins : {net : Net} {tg : List ℕ} {d : Course} → Journey net tg d → d .transmissions ≡ tg ∷ tail (d .transmissions)
-begins (ends e) = refl
-begins (refused mine out room e) = refl
-begins (sends mine out room e j) = refl
-
-abbrev sending : List ℕ → Handled
-sending next = sent (length next)
-
-pub sent-each : {net : Net} {tg : List ℕ} {d : Course} → Journey net tg d → sentOnly (d .answers) ≡ map sending (tail (d .transmissions))
-sent-each (ends e) = refl
-sent-each (refused mine out room e) = refl
-sent-each (sends {tg = tg} {t = t} {a = a} {n = n} {rest = rest} mine out room e j) =
-    let long = sym (sent-length a t tg out n room e) in
-    (λ i. sent (long i) ∷ sent-each j i) ∙ ap (map sending) (sym (begins j))
 
 -- lists of answers
 module _ (later : List Handled) (k : ℕ) where

@@ -3,13 +3,13 @@
 use mathlib.Core.Path.{_≡_, refl, sym, _∙_, ap, ap₂, subst}
 use mathlib.Core.Bool.{true}
 use mathlib.Core.List.{List, [], _∷_, _++_, map, tail, reverse}
-use Prim.Native.Nat.{ℕ, _+_, _-_, _*_, _≤_}
+use Prim.Native.Nat.{ℕ, zero, suc, _-_, _*_, _≤_}
 use native.Mathlib.Omega.{arith}
 use lib.ListN.{length, length-append, length-reverse, length-map}
 use Rattle.registers.specs.Rows.{tableLength}
 use Rattle.registers.specs.Runs.{runExists}
 use Rattle.registers.proofs.Runs.{length-writes, writes-keeps, writes-holds}
-use Rattle.mop_block.specs.Block.{stations, first}
+use Rattle.mop_block.specs.Block.{stations, first, rollLeft, rollRight}
 use Rattle.mop_header.specs.Header.{Head, head, telegramOf, markByte, withMark, markAgrees, remarked, newControl}
 use Rattle.mop_header.specs.declared.Form.{Form}
 use Rattle.mop_header.specs.declared.Function.{Function}
@@ -20,7 +20,7 @@ use Rattle.mop_station.proofs.Bodies.{accepted}
 use Rattle.mop_station.proofs.Answers.{length-values}
 use Rattle.journey.specs.Net.{Net, goodNet, isThere, allThere, tableAt, withTable}
 use Rattle.journey.specs.Journey.{Course}
-use Rattle.journey.specs.Terms.{shown, thereAndBack, Written, destination}
+use Rattle.journey.specs.Terms.{m, shown, thereAndBack, Written, destination}
 use Rattle.journey.specs.Demand3.{Accomplished}
 use Rattle.journey.specs.Transmissions.{outward, relayedBlock, homeward, requestOn, allTelegrams}
 use Rattle.journey.proofs.Net.{good-table, there-parts}
@@ -28,18 +28,29 @@ use Rattle.journey.proofs.Ring.{lastOf, last-at}
 use Rattle.journey.proofs.Telegrams.{telegramFor}
 use Rattle.journey.proofs.Passage.{Fulfilled}
 
--- the way back is as long as the way out
 length-tail : (l : List ℕ) → length (tail l) ≡ length l - 1
 length-tail [] = refl
 length-tail (x ∷ l) = omega arith
 
-both-ways : (n k : ℕ) → 1 ≤ n → k ≡ n - 1 → n + (k + 1) ≡ 2 * n
-both-ways n k some e = omega arith
+-- the way back is as long as the way out
+length-outward : (k : ℕ) (b : List ℕ) → length (outward k b) ≡ k
+length-outward zero b = refl
+length-outward (suc k) b = ap suc (length-outward k (rollLeft b))
 
-length-both : (route body reply : List ℕ) → 1 ≤ length route → length (thereAndBack route body reply) ≡ 2 * length route
-length-both route body reply some =
-    simp (length-append, length-map)
-    (both-ways (length route) (length (tail (reverse route))) some (length-tail (reverse route) ∙ ap (λ (n : ℕ). n - 1) (length-reverse route)))
+length-homeward : (k : ℕ) (b : List ℕ) → length (homeward k b) ≡ k
+length-homeward zero b = refl
+length-homeward (suc k) b = ap suc (length-homeward k (rollRight b))
+
+both-ways : (f g : List ℕ → List ℕ) (n k : ℕ) (b d : List ℕ) → k ≡ n → length (map f (outward n b) ++ map g (homeward k d)) ≡ 2 * n
+both-ways f g n k b d e =
+    omega (
+      arith,
+      length-append (map f (outward n b)) (map g (homeward k d)),
+      length-map (outward n b) f,
+      length-map (homeward k d) g,
+      length-outward n b,
+      length-homeward k d,
+    )
 
 -- the table after the writes of an accepted body
 pub writes-all : (body t : List ℕ) → judgedBody body ≡ accepts → length t ≡ tableLength → Written body t (afterWrites body t)
@@ -91,9 +102,9 @@ module _ (net : Net) (h : Head) (body : List ℕ) (d : Course) (x : Fulfilled ne
         (writes-all body (tableAt a net) verdict (good-table a net fit (there-last net (stations (h .block)) some all)))
 
     pub fulfilled : Accomplished net h body d
-    fulfilled = record {
-      count = sym (length-map (d .transmissions) shown) ∙ ap length passage-is
-          ∙ length-both (stations (h .block)) body (replyBody body (tableAt (destination h) (d .after))) some;
+    fulfilled = let route = stations (h .block) in record {
+      count = ap length (x .telegrams)
+          ∙ both-ways _ _ (m h) (length (reverse route)) (h .block) (relayedBlock (length (tail route)) (h .block)) (length-reverse route);
       passage = passage-is;
       ending = x .ending;
       written = subst (λ (a : ℕ). Written body (tableAt a net) (tableAt a (d .after))) at-destination written-last;

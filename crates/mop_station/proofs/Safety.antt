@@ -51,7 +51,7 @@ module _ (t out : List ℕ) where
   unfolding hearing
   hear-kept (fault k) own h telegram = (refl, refl)
   hear-kept fine own h telegram =
-      pick-either (λ r. Kept r t out) (eqb (first (h .block)) own) (take-kept (h .function) (next (h .block)) h (bodyOf h telegram)) (refl, refl)
+      pick-either (λ r. Kept r t out) (eqb (first (h .block)) own) (take-kept (h .function) _ h (bodyOf h telegram)) (refl, refl)
 
 pub refused-keeps-all : RefusedKeepsAll
 unfolding handling

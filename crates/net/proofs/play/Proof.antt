@@ -69,7 +69,7 @@ returns c =
     (s .pre .1 .0) (s .pre .1 .1) (l .before .loop .inv) in
     let told = c .before .before .before .before .before .e .given .1 in
     rw (c .before .before .clear-from .ensures)
-    (run-ends way (l .loop-test .taken) (sub-zero (l .before .loop .length)) (h .hop .ensures) told)
+    (run-ends way (omega arith) (sub-zero (l .before .loop .length)) (h .hop .ensures) told)
 
 enum-known-n : tie.Need-enum-known-n Inv-loop μ-loop
 enum-known-n c = search needs
@@ -85,7 +85,7 @@ part-put-end c =
     let h = c .before .before .before .before .before .before .before in
     let l = h .before .before .before .before .before in
     let v = l .before .loop in
-    let next = next-short (v .inv) (l .loop-test .taken) (sub-zero (v .length)) (h .hop .ensures) (c .before .before .n .given .1) in
+    let next = next-short (v .inv) (omega arith) (sub-zero (v .length)) (h .hop .ensures) (c .before .before .n .given .1) in
     omega arith
 
 put-requires-2 : tie.Need-put-requires-2 Inv-loop μ-loop
@@ -104,7 +104,7 @@ loop-again c =
     let l = h .before .before .before .before .before in
     let size : length (h .hop .last .1 .1 .1 .0) ≡ 1024 = search needs in
     rw (c .before .before .put2 .ensures, sub-zero (k .0 .0))
-    (run-goes (l .before .loop .inv) (l .loop-test .taken) (sub-zero (l .before .loop .length)) (h .hop .ensures) (k .1) size)
+    (run-goes (l .before .loop .inv) (omega arith) (sub-zero (l .before .loop .length)) (h .hop .ensures) (k .1) size)
 
 clear-from-requires-2 : tie.Need-clear-from-requires-2 Inv-loop μ-loop
 clear-from-requires-2 c κs = search needs
@@ -126,7 +126,7 @@ returns-2 c =
     let way =
     run-from (s .args .telegram .now) (s .args .addresses .now) (s .args .tables .now) (s .args .out .now) (p .put .ensures)
     (s .pre .1 .0) (s .pre .1 .1) (l .before .loop .inv) in
-    rw (c .before .before .clear-from2 .ensures) (run-over way (l .loop-test .left))
+    rw (c .before .before .clear-from2 .ensures) (run-over way (omega arith))
 
 pub play-spec : {M : Type 1} → statement M
 play-spec =
