@@ -15,12 +15,13 @@ use Rattle.mop_header.specs.declared.Form.{Form}
 use Rattle.mop_header.specs.declared.Function.{Function}
 use Rattle.mop_header.specs.declared.Function.the-variants.{Request, Reply}
 use Rattle.mop_header.proofs.Marks.{agrees-remarked}
-use Rattle.mop_station.specs.Body.{writeStart, valuesOf, accepts, judgedBody, afterWrites, replyBody}
+use Rattle.mop_body.specs.Body.{writeStart, valuesOf}
+use Rattle.mop_station.specs.Body.{accepts, judgedBody, afterWrites, replyBody}
 use Rattle.mop_station.proofs.Bodies.{accepted}
 use Rattle.mop_station.proofs.Answers.{length-values}
 use Rattle.journey.specs.Net.{Net, goodNet, isThere, allThere, tableAt, withTable}
 use Rattle.journey.specs.Journey.{Course}
-use Rattle.journey.specs.Terms.{m, shown, thereAndBack, Written, destination}
+use Rattle.journey.specs.Terms.{m, shown, thereAndBack, WrittenBy, destination}
 use Rattle.journey.specs.Demand3.{Accomplished}
 use Rattle.journey.specs.Transmissions.{outward, relayedBlock, homeward, requestOn, allTelegrams}
 use Rattle.journey.proofs.Net.{good-table, there-parts}
@@ -53,7 +54,7 @@ both-ways f g n k b d e =
     )
 
 -- the table after the writes of an accepted body
-pub writes-all : (body t : List ℕ) → judgedBody body ≡ accepts → length t ≡ tableLength → Written body t (afterWrites body t)
+pub writes-all : (body t : List ℕ) → judgedBody body ≡ accepts → length t ≡ tableLength → WrittenBy body t (afterWrites body t)
 unfolding afterWrites
 writes-all body t verdict long =
     let a = accepted body verdict in
@@ -95,10 +96,10 @@ module _ (net : Net) (h : Head) (body : List ℕ) (d : Course) (x : Fulfilled ne
         subst (λ (a : ℕ). map shown (d .transmissions) ≡ thereAndBack (stations (h .block)) body (replyBody body (tableAt a (d .after))))
         at-destination (x .passage)
 
-    written-last : (let a = lastOf (stations (h .block)) in Written body (tableAt a net) (tableAt a (d .after)))
+    written-last : (let a = lastOf (stations (h .block)) in WrittenBy body (tableAt a net) (tableAt a (d .after)))
     written-last =
         let a = lastOf (stations (h .block)) in
-        subst (λ (t : List ℕ). Written body (tableAt a net) t) (sym (x .written))
+        subst (λ (t : List ℕ). WrittenBy body (tableAt a net) t) (sym (x .written))
         (writes-all body (tableAt a net) verdict (good-table a net fit (there-last net (stations (h .block)) some all)))
 
     pub fulfilled : Accomplished net h body d
@@ -107,7 +108,7 @@ module _ (net : Net) (h : Head) (body : List ℕ) (d : Course) (x : Fulfilled ne
           ∙ both-ways _ _ (m h) (length (reverse route)) (h .block) (relayedBlock (length (tail route)) (h .block)) (length-reverse route);
       passage = passage-is;
       ending = x .ending;
-      written = subst (λ (a : ℕ). Written body (tableAt a net) (tableAt a (d .after))) at-destination written-last;
+      written = subst (λ (a : ℕ). WrittenBy body (tableAt a net) (tableAt a (d .after))) at-destination written-last;
       others = subst (λ (a : ℕ). d .after ≡ withTable a (tableAt a (d .after)) net) at-destination (x .others);
     }
 

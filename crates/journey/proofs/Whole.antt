@@ -16,7 +16,7 @@ use Rattle.mop_header.proofs.Lengths.{sized-most}
 use Rattle.mop_header.proofs.ReadBack.{is-written, reading-fine}
 use Rattle.journey.specs.Net.{Net, goodNet, isThere, tableAt, withTable}
 use Rattle.journey.specs.Journey.{Ending, atNobody, refusedWith, Course, unheard, callOutput, Journey}
-use Rattle.journey.specs.Terms.{m, beforeZeros, Written}
+use Rattle.journey.specs.Terms.{m, beforeZeros, WrittenBy}
 use Rattle.journey.specs.Demand3.{Carried, Demand3, TheJourney, EveryJourney}
 use Rattle.journey.specs.Transmissions.{ByteForByte}
 use Rattle.journey.specs.Bounded.{mostTransmissions, PlaysTheJourney}
@@ -56,7 +56,7 @@ changed net fit h body c (inr x) =
     inr (record {
       request = x .0;
       accepted = y .accepted;
-      written = subst (λ (u : List ℕ). Written body (tableAt a net) u) (sym now)
+      written = subst (λ (u : List ℕ). WrittenBy body (tableAt a net) u) (sym now)
           (writes-all body (tableAt a net) (y .accepted) (good-table a net fit (y .there)));
       others = y .is ∙ ap (λ (u : List ℕ). withTable a u net) (sym now);
     })

@@ -15,7 +15,7 @@ use Rattle.mop_station.specs.Body.{accepts, rejects, judgedBody, replyBody}
 use Rattle.mop_station.specs.Station.{Handled, sent, refuses, leaving, handling}
 use Rattle.journey.specs.Net.{Net, addressesOf, goodNet, isThere, allThere, tableAt, withTable}
 use Rattle.mop_header.specs.declared.Function.the-variants.{Request}
-use Rattle.journey.specs.Terms.{m, Fresh, beforeZeros, shows, shown, thereAndBack, Written, destination, sentOnly, allOrdinary, allFine}
+use Rattle.journey.specs.Terms.{m, Fresh, beforeZeros, shows, shown, thereAndBack, WrittenBy, destination, sentOnly, allOrdinary, allFine}
 use Rattle.journey.specs.Journey.{atZero, atNobody, refusedWith, Course, unheard, Journey}
 
 -- what the journey of a fresh request comes to whose stations are all there and whose destination accepts the body. The replies
@@ -24,7 +24,7 @@ pub record Accomplished (net : Net) (h : Head) (body : List ℕ) (c : Course) : 
   pub count : length (c .transmissions) ≡ 2 * m h
   pub passage : map shown (c .transmissions) ≡ thereAndBack (stations (h .block)) body (replyBody body (tableAt (destination h) (c .after)))
   pub ending : c .ending ≡ atZero
-  pub written : Written body (tableAt (destination h) net) (tableAt (destination h) (c .after))
+  pub written : WrittenBy body (tableAt (destination h) net) (tableAt (destination h) (c .after))
   pub others : c .after ≡ withTable (destination h) (tableAt (destination h) (c .after)) net
 
 -- what the journey of a fresh request comes to whose stations are all there and whose destination refuses the body with k: m
@@ -39,7 +39,7 @@ pub record Declined (net : Net) (h : Head) (body : List ℕ) (k : ℕ) (c : Cour
 pub record Carried (net : Net) (h : Head) (body : List ℕ) (c : Course) : Type 0 where
   pub request : h .function ≡ Request
   pub accepted : judgedBody body ≡ accepts
-  pub written : (let a = beforeZeros (h .block) in Written body (tableAt a net) (tableAt a (c .after)))
+  pub written : (let a = beforeZeros (h .block) in WrittenBy body (tableAt a net) (tableAt a (c .after)))
   pub others : (let a = beforeZeros (h .block) in c .after ≡ withTable a (tableAt a (c .after)) net)
 
 pub record Demand3 (net : Net) (tg : List ℕ) (c : Course) : Type 0 where

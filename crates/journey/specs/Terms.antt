@@ -13,7 +13,7 @@ use Rattle.mop_header.specs.Reading.{Finding, fine, fault, reading}
 use Rattle.mop_header.specs.declared.Function.{Function}
 use Rattle.mop_header.specs.declared.Function.the-variants.{Request, Reply}
 use Rattle.mop_header.specs.declared.Reader.the-variants.{Station}
-use Rattle.mop_station.specs.Body.{writeStart, valuesOf}
+use Rattle.mop_body.specs.Body.{writeStart, valuesOf}
 use Rattle.mop_station.specs.Station.{Handled, sent, notMine, refuses}
 
 -- m, of a telegram without a fault in its header: the number of stations that its block names
@@ -56,11 +56,15 @@ abbrev pub thereAndBack : List ℕ → List ℕ → List ℕ → List Shown
 thereAndBack route body reply =
     map (λ (a : ℕ). shows Request a body) route ++ map (λ (a : ℕ). shows Reply a reply) (tail (reverse route) ++ (0 ∷ []))
 
--- the table of a destination that carried out a body: the written values in order from the write start, all others as before
-pub record Written (body before after : List ℕ) : Type 0 where
-  pub holds : (i : ℕ) → i < length (valuesOf body) → getD after (placeOf (writeStart body + i)) 0 ≡ getD (valuesOf body) i 0
-  pub keeps : (j : ℕ) → ((i : ℕ) → i < length (valuesOf body) → j ≡ placeOf (writeStart body + i) → ⊥) → getD after j 0 ≡ getD before j 0
+-- a table with values written to a run: they stand there in order from the start on, and all others are as before
+pub record Written (start : ℕ) (values before after : List ℕ) : Type 0 where
+  pub holds : (i : ℕ) → i < length values → getD after (placeOf (start + i)) 0 ≡ getD values i 0
+  pub keeps : (j : ℕ) → ((i : ℕ) → i < length values → j ≡ placeOf (start + i) → ⊥) → getD after j 0 ≡ getD before j 0
   pub long : length after ≡ length before
+
+-- the table of a destination that carried out a body
+abbrev pub WrittenBy : List ℕ → List ℕ → List ℕ → Type 0
+WrittenBy body before after = Written (writeStart body) (valuesOf body) before after
 
 -- the destination of a fresh request: the last, in block order, of its m stations
 abbrev pub destination : Head → ℕ
@@ -82,6 +86,12 @@ sentOnly [] = []
 sentOnly (sent n ∷ rest) = sent n ∷ sentOnly rest
 sentOnly (notMine ∷ rest) = sentOnly rest
 sentOnly (refuses k ∷ rest) = sentOnly rest
+
+-- the last of some telegrams
+unfoldable pub lastTelegram : List (List ℕ) → List ℕ
+lastTelegram [] = []
+lastTelegram (tg ∷ []) = tg
+lastTelegram (tg ∷ next ∷ rest) = lastTelegram (next ∷ rest)
 
 -- whether telegrams are without a fault in their headers
 abbrev pub isFine : Finding → Bool

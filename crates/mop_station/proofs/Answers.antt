@@ -9,22 +9,24 @@ use lib.ListN.{length, take, drop, length-drop}
 use lib.Seq.{sets, length-sets}
 use Rattle.base.specs.Filling.{Filling, fitted}
 use Rattle.base.proofs.Filling.{fitted-short, fitted-room}
-use Rattle.base.proofs.Words.{length-words, length-bytes}
+use Rattle.base.proofs.Words.{length-words}
 use Rattle.registers.specs.Rows.{placeOf, tableLength}
 use Rattle.registers.specs.Runs.{runExists, reads}
 use Rattle.registers.proofs.Runs.{run-room, run-bound, length-reads, reads-run, length-writes, writes-run}
 use Rattle.mop_header.specs.Header.{Head, headerLength, telegramOf, asReply}
 use Rattle.mop_header.proofs.Lengths.{length-sent-back, length-as-reply}
 use Rattle.mop_header.proofs.Writing.{length-telegram}
-use Rattle.mop_station.specs.Body.{accepts, readStart, readCount, writeStart, writeCount, valuesOf, judgedBody, afterWrites, replyWith, replyBody}
+use Rattle.mop_body.specs.Body.{readStart, readCount, writeStart, writeCount, valuesOf, replyWith}
+use Rattle.mop_body.proofs.Bodies.{length-reply-with}
+use Rattle.mop_station.specs.Body.{accepts, judgedBody, afterWrites, replyBody}
 use Rattle.mop_station.specs.Station.{sending, keptBy, leaving, refuses, replied, answering}
 use Rattle.mop_station.proofs.Bodies.{Accepted, accepted}
 
 pub length-reply : (body table : List ℕ) → length (replyBody body table) ≡ 3 + 2 * readCount body
-unfolding replyBody replyWith
+unfolding replyBody
 length-reply body table =
-    let values = reads table (readStart body) (readCount body) in
-    omega (arith, length-bytes values, length-reads table (readStart body) (readCount body))
+    length-reply-with body (reads table (readStart body) (readCount body))
+    ∙ ap (λ (n : ℕ). 3 + 2 * n) (length-reads table (readStart body) (readCount body))
 
 -- the lengths of what a destination leaves and sends
 pub length-after : (body t : List ℕ) → length (afterWrites body t) ≡ length t

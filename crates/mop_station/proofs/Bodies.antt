@@ -11,7 +11,8 @@ use lib.ListN.{length}
 use Rattle.base.specs.Choice.{pick}
 use Rattle.base.proofs.Choice.{pick-either}
 use Rattle.registers.specs.Runs.{runExists, runMayWrite, runTakes}
-use Rattle.mop_station.specs.Body.{Acceptance, accepts, rejects, readStart, readCount, writeStart, writeCount, valuesOf, judgedRuns, judgedBody}
+use Rattle.mop_body.specs.Body.{readStart, readCount, writeStart, writeCount, valuesOf}
+use Rattle.mop_station.specs.Body.{Acceptance, accepts, rejects, judgedRuns, judgedBody}
 
 module _ (rStart rCount wStart wCount : ℕ) (values : List ℕ) where
   pub no-read-run : runExists rStart rCount ≡ false → judgedRuns rStart rCount wStart wCount values ≡ rejects 8

@@ -1,13 +1,13 @@
--- Storing two-byte numbers, and writing them as bytes: one step of each, and what a reply comes to.
+-- Storing two-byte numbers, one more of them, and what a reply comes to.
 -- Assumes nothing.
 use mathlib.Core.Path.{_≡_, ap, subst}
 use mathlib.Core.List.{List, _∷_}
 use Prim.Native.Nat.{ℕ, suc, _+_, _-_, _*_, _≤_, _<_}
-use native.Mathlib.Numerals.{add-one, add-two}
+use native.Mathlib.Numerals.{add-one}
 use native.Mathlib.Omega.{arith}
 use lib.ListN.{length, getD, take, drop, set}
-use lib.Seq.{sets, drop-cons}
-use Rattle.base.specs.Words.{word, highByte, lowByte, wordsOf, bytesOf}
+use lib.Seq.{sets}
+use Rattle.base.specs.Words.{word, wordsOf, bytesOf}
 use Rattle.base.proofs.Places.{take-sets}
 use Rattle.base.proofs.Words.{words-next, length-bytes}
 
@@ -18,11 +18,6 @@ module _ (bytes : List ℕ) (i : ℕ) (h : 1 < length bytes - i) where
 
   pub words-fewer : length (wordsOf (drop i bytes)) ≡ suc (length (wordsOf (drop (i + 2) bytes)))
   words-fewer = ap length (words-next bytes i h)
-
-pub put-step : (words out : List ℕ) (place i : ℕ) {whole : List ℕ} → i < length words → sets out place (bytesOf (drop i words)) ≡ whole →
-    sets (set (set out place (highByte (getD words i 0))) (place + 1) (lowByte (getD words i 0))) (place + 2) (bytesOf (drop (i + 1) words)) ≡ whole
-unfolding bytesOf
-put-step words out place i h k = rw (add-one place, add-two place, add-one i) (rw (drop-cons words i 0 h) at k)
 
 -- three bytes and the values behind them, in the first places
 pub reply-stored : (a b c : ℕ) (values rest : List ℕ) (n : ℕ) → length values ≡ n → 2 * n ≤ length rest →

@@ -1,32 +1,16 @@
--- The body of a request, what a destination refuses in it, and what it answers.
+-- What a destination refuses in the body of a request, what it carries out, and what it answers.
 -- Assumes nothing.
 use Prim.Native.Nat.{ℕ, _+_, _*_}
 use mathlib.Core.Bool.{not, _&&_}
-use mathlib.Core.List.{List, _∷_}
+use mathlib.Core.List.{List}
 use lib.Dec.{eqb}
-use lib.ListN.{length, getD, drop}
+use lib.ListN.{length}
 use Rattle.base.specs.Choice.{pick}
-use Rattle.base.specs.Words.{word, wordsOf, bytesOf}
 use Rattle.registers.specs.Runs.{runExists, runMayWrite, runTakes, writes, reads}
 use Rattle.refusal.specs.Numbers.{numberOf}
+use Rattle.mop_body.specs.Body.{readStart, readCount, writeStart, writeCount, valuesOf, replyWith}
 use Rattle.mop_station.specs.declared.BodyVerdict.{BodyVerdict}
 use Rattle.mop_station.specs.declared.BodyVerdict.the-variants.{Accepted, Rejected}
-
--- the parts of a request's body: read start, read count, write start, write count, and the values
-abbrev pub readStart : List ℕ → ℕ
-readStart body = word (getD body 0 0) (getD body 1 0)
-
-abbrev pub readCount : List ℕ → ℕ
-readCount body = getD body 2 0
-
-abbrev pub writeStart : List ℕ → ℕ
-writeStart body = word (getD body 3 0) (getD body 4 0)
-
-abbrev pub writeCount : List ℕ → ℕ
-writeCount body = getD body 5 0
-
-abbrev pub valuesOf : List ℕ → List ℕ
-valuesOf body = wordsOf (drop 6 body)
 
 -- what a destination says of a body before it carries anything out: it "accepts" the body, or the number of a refusal
 pub data Acceptance : Type 0 where
@@ -55,10 +39,6 @@ judgedBody body =
 unfoldable pub afterWrites : List ℕ → List ℕ → List ℕ
 afterWrites body table = writes table (writeStart body) (valuesOf body)
 
--- the body of a reply: read start and count as they came, then the values
-unfoldable pub replyWith : List ℕ → List ℕ → List ℕ
-replyWith body values = getD body 0 0 ∷ getD body 1 0 ∷ getD body 2 0 ∷ bytesOf values
-
--- with the values that the read run has in a table
+-- the body of the reply, with the values that the read run has in a table
 unfoldable pub replyBody : List ℕ → List ℕ → List ℕ
 replyBody body table = replyWith body (reads table (readStart body) (readCount body))

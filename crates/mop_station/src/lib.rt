@@ -18,7 +18,8 @@ ghost use Rattle.registers.specs.Runs.{longestRun};
 ghost use Rattle.mop_block.specs.Block.{next};
 ghost use Rattle.mop_header.specs.Header.{headOf, headerLength, telegramOf, sentBack};
 ghost use Rattle.mop_header.specs.Reading.{fine};
-ghost use Rattle.mop_station.specs.Body.{acceptanceOf, accepts, readStart, readCount, writeStart, valuesOf, judgedRuns, judgedBody, replyWith};
+ghost use Rattle.mop_body.specs.Body.{readStart, readCount, writeStart, valuesOf, replyWith};
+ghost use Rattle.mop_station.specs.Body.{acceptanceOf, accepts, judgedRuns, judgedBody};
 ghost use Rattle.mop_station.specs.Station.{handledOf, sending, handlingOf, relayed, replied, answering, taking, hearing, handling};
 
 // What handling a telegram gives: the length of what was sent, "not mine", or a refusal.
@@ -26,13 +27,6 @@ pub enum StationAnswer {
     Sent(usize),
     NotMine,
     Refused(Refusal),
-}
-
-// A two-byte number.
-fn word_of(high: u8, low: u8) -> u16
-    ensures { λ r. ⌜ r ≡ word high low ⌝ }
-{
-    high as u16 * 256 + low as u16
 }
 
 // A reply as it is sent: rolled right, then marked.
@@ -117,8 +111,8 @@ fn judge_body(body: &[u8]) -> BodyVerdict
     if n != 6 + 2 * wcount as usize {
         return BodyVerdict::Rejected(Refusal::BodyLength);
     }
-    let rstart = word_of(body[0], body[1]);
-    let wstart = word_of(body[3], body[4]);
+    let rstart = words::word_of(body[0], body[1]);
+    let wstart = words::word_of(body[3], body[4]);
     judge_runs(rstart, body[2], wstart, wcount, &body[6..n])
 }
 
@@ -130,25 +124,9 @@ fn store_words(bytes: &[u8], table: &mut [u16], at: usize)
     let mut place = at;
     let mut i: usize = 0;
     while 1 < bytes.len() - i {
-        table[place] = word_of(bytes[i], bytes[i + 1]);
+        table[place] = words::word_of(bytes[i], bytes[i + 1]);
         place += 1;
         i += 2;
-    }
-}
-
-// Writes the bytes of numbers to the places of out from `at` on.
-fn put_words(words: &[u16], out: &mut [u8], at: usize)
-    requires { ⌜ at + 2 * length (now words) ≤ length (now out) ⌝ }
-    ensures { λ r. ⌜ now (out .exit) ≡ sets (now (out .entry)) at (bytesOf (now (words .entry))) ⌝ }
-{
-    let mut place = at;
-    let mut i: usize = 0;
-    while i < words.len() {
-        let n = words[i];
-        i += 1;
-        out[place] = (n / 256) as u8;
-        out[place + 1] = (n % 256) as u8;
-        place += 2;
     }
 }
 
@@ -159,7 +137,7 @@ fn write_registers(body: &[u8], registers: &mut [u16])
     ensures { λ r. ⌜ now (registers .exit) ≡ sets (now (registers .entry)) (placeOf (writeStart (now (body .entry)))) (valuesOf (now (body .entry))) ⌝ }
 {
     let n = body.len();
-    let start = word_of(body[3], body[4]);
+    let start = words::word_of(body[3], body[4]);
     let at = registers::place_of(start as usize);
     store_words(&body[6..n], &mut *registers, at);
 }
@@ -174,7 +152,7 @@ fn reply_body(body: &[u8], registers: &[u16]) -> [u8; REPLY_BODY]
     requires { ⌜ placeOf (readStart (now body)) + readCount (now body) ≤ length (now registers) ⌝ }
     ensures { λ r. ⌜ take (3 + 2 * readCount (now (body .entry))) r ≡ replyWith (now (body .entry)) (take (readCount (now (body .entry))) (drop (placeOf (readStart (now (body .entry)))) (now (registers .entry)))) ⌝ }
 {
-    let start = word_of(body[0], body[1]);
+    let start = words::word_of(body[0], body[1]);
     let count = body[2];
     let at = registers::place_of(start as usize);
     let end = at + count as usize;
@@ -182,7 +160,7 @@ fn reply_body(body: &[u8], registers: &[u16]) -> [u8; REPLY_BODY]
     reply[0] = body[0];
     reply[1] = body[1];
     reply[2] = count;
-    put_words(&registers[at..end], &mut reply, 3);
+    words::put_words(&registers[at..end], &mut reply, 3);
     reply
 }
 

@@ -12,7 +12,8 @@ use Rattle.journey.specs.Net.{Net}
 use Rattle.journey.specs.Journey.{Ending, Handler, noStation, station, handler, Course, onward, leftBy}
 use Rattle.journey.specs.Bounded.{calling, answered, heardBy, playing}
 use Rattle.net.specs.Tables.{tablesOf}
-use Rattle.net.specs.DryRun.{DryRun, played, leaves, lastTelegram, padded, ofCourse}
+use Rattle.journey.specs.Terms.{lastTelegram}
+use Rattle.net.specs.DryRun.{DryRun, played, leaves, padded, ofCourse}
 
 pub record Summary : Type 0 where
   pub count : ℕ

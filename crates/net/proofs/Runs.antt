@@ -16,7 +16,8 @@ use Rattle.net.specs.Hop.{endingOf, hopOf, hopping}
 use Rattle.net.specs.declared.JourneyEnd.{JourneyEnd}
 use Rattle.net.specs.declared.HopAnswer.{HopAnswer}
 use Rattle.net.specs.declared.HopAnswer.the-variants.{Sent, Ended}
-use Rattle.net.specs.DryRun.{played, leaves, runOutput, lastTelegram, padded, ofCourse}
+use Rattle.journey.specs.Terms.{lastTelegram}
+use Rattle.net.specs.DryRun.{played, leaves, runOutput, padded, ofCourse}
 use Rattle.net.proofs.Tables.{fit-length, tables-of-net}
 use Rattle.net.proofs.Hops.{HopEnds, HopGoes, hop-ends, hop-goes}
 use Rattle.net.proofs.Courses.{Summary, summaryOf, ofSummary, of-summary, summary-onward}

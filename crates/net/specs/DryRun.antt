@@ -12,6 +12,7 @@ use Rattle.refusal.specs.Numbers.{numberOf}
 use Rattle.mop_header.specs.Reading.{Finding, fine, fault, tooLong, reading}
 use Rattle.mop_header.specs.declared.Reader.the-variants.{Station}
 use Rattle.journey.specs.Journey.{Ending, Course}
+use Rattle.journey.specs.Terms.{lastTelegram}
 use Rattle.journey.specs.Demand3.{TheJourney}
 use Rattle.journey.specs.Bounded.{playing, mostTransmissions}
 use Rattle.net.specs.Tables.{netOf, tablesOf, setUp}
@@ -40,12 +41,6 @@ leaves o tables out = record { outcome = o; tables = tables; output = out }
 
 abbrev pub dryRunOf : DryRunAnswer → List ℕ → List ℕ → DryRun
 dryRunOf r tables out = leaves (outcomeOf r) tables out
-
--- the last of some telegrams
-unfoldable pub lastTelegram : List (List ℕ) → List ℕ
-lastTelegram [] = []
-lastTelegram (tg ∷ []) = tg
-lastTelegram (tg ∷ next ∷ rest) = lastTelegram (next ∷ rest)
 
 -- the places of the output that a dry run fills, and asks for
 abbrev pub runOutput : ℕ

@@ -21,14 +21,16 @@ use Rattle.mop_header.specs.Header.{addressBytes, headerBytes, headerLength, te
 use Rattle.mop_header.specs.Reading.{allowed, fine, functionAt, goodFor, judged, standardReading, extendedReading, reading}
 use Rattle.mop_header.specs.declared.Function.the-variants.{Request}
 use Rattle.mop_header.specs.declared.Reader.the-variants.{Station}
-use Rattle.mop_station.specs.Body.{accepts, judgedRuns, judgedBody, afterWrites, replyWith, replyBody}
+use Rattle.mop_body.specs.Body.{replyWith}
+use Rattle.mop_station.specs.Body.{accepts, judgedRuns, judgedBody, afterWrites, replyBody}
 use Rattle.mop_station.specs.Station.{sending, relayed, relaying, replied, keptBy, answering, taking, hearing, handling}
 use Rattle.journey.specs.Net.{rightTables, goodNet, isThere, allThere, tableAt, withTable}
 use Rattle.journey.specs.Journey.{Ending, Course, named, addressee, handler}
 use Rattle.journey.specs.Bounded.{calling, playing, mostTransmissions}
 use Rattle.journey.proofs.Whole.{plays-the-journey}
 use Rattle.net.specs.Tables.{netOf, tablesOf, tablesFit, setUp}
-use Rattle.net.specs.DryRun.{runOutput, played, leaves, lastTelegram, padded, ofCourse, dryRun}
+use Rattle.journey.specs.Terms.{lastTelegram}
+use Rattle.net.specs.DryRun.{runOutput, played, leaves, padded, ofCourse, dryRun}
 use Rattle.report.specs.Text.{hexDigit, hexBytes, decimal, line, lines, sentText, endingText, closing, courseText, refusedText, outrightText}
 use Rattle.report.specs.Report.{reportOutput, reporting, toldOf}
 use Rattle.report.specs.Report as report

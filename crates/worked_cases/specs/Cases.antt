@@ -20,9 +20,9 @@ use Rattle.mop_station.specs.Body.{accepts, judgedBody}
 use Rattle.mop_station.specs.Station.{sent, refuses, leaving, handling}
 use Rattle.journey.specs.Net.{Net, goodNet, allThere}
 use Rattle.journey.specs.Journey.{Ending, atZero, atNobody, refusedWith, Course, Journey}
-use Rattle.journey.specs.Terms.{Fresh}
+use Rattle.journey.specs.Terms.{Fresh, lastTelegram}
 use Rattle.net.specs.Tables.{netOf, tablesOf}
-use Rattle.net.specs.DryRun.{played, leaves, lastTelegram, padded, dryRun}
+use Rattle.net.specs.DryRun.{played, leaves, padded, dryRun}
 use Rattle.report.specs.Text.{codes}
 use Rattle.report.specs.Report.{reportOutput, reporting}
 use Rattle.report.specs.Report as report

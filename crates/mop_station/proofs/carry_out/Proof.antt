@@ -7,7 +7,8 @@ use native.Mathlib.Omega.{arith}
 use native.Mathlib.Nat.{sub-zero}
 use Rattle.registers.proofs.Runs.{run-bound}
 use Rattle.mop_header.specs.Header.{headOf, headerLength}
-use Rattle.mop_station.specs.Body.{accepts, readStart, readCount, judgedBody}
+use Rattle.mop_body.specs.Body.{readStart, readCount}
+use Rattle.mop_station.specs.Body.{accepts, judgedBody}
 use Rattle.mop_station.proofs.Bodies.{accepted}
 use Rattle.mop_station.proofs.Answers.{write-room, read-room, answer-short, answer-sent}
 use borrow.Author.Needs.{needs}

@@ -6,7 +6,7 @@ use native.Mathlib.Omega.{arith}
 use lib.ListN.{length, getD, take, drop, length-drop}
 use lib.Seq.{length-take-le}
 use Rattle.registers.specs.Rows.{placeOf}
-use Rattle.mop_station.specs.Body.{replyWith}
+use Rattle.mop_body.specs.Body.{replyWith}
 use Rattle.mop_station.proofs.Stores.{reply-stored}
 use borrow.Author.Needs.{needs}
 use Rattle.mop_station.proofs.reply_body.Statement.{statement}

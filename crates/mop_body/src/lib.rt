@@ -1,0 +1,1 @@
+// The bodies of MoP telegrams: definitions and laws, no code.
