@@ -54,7 +54,7 @@ module _ (b : List ℕ) (i : ℕ) where
     unfolding stations
     zero-next e = rw (add-one, drop-cons b i 0 h, e)
 
-    station-next : (getD b i 0 ≡ 0 → ⊥) → stations (drop i b) ≡ getD b i 0 ∷ stations (drop (i + 1) b)
+    pub station-next : (getD b i 0 ≡ 0 → ⊥) → stations (drop i b) ≡ getD b i 0 ∷ stations (drop (i + 1) b)
     station-next d = rw (add-one, drop-cons b i 0 h) (named (getD b i 0) (drop (suc i) b) d)
 
     pub somebody : (getD b i 0 ≡ 0 → ⊥) → ltb 0 (length (stations (drop i b))) ≡ true

@@ -1,14 +1,35 @@
--- Two copies into the places of a list, one behind the other.
+-- Copies into the places of a list: a block, and two parts one behind the other.
 -- Assumes nothing.
-use mathlib.Core.Path.{_≡_, _∙_, ap, subst}
+use mathlib.Core.Path.{_≡_, refl, sym, _∙_, ap, subst}
+use mathlib.Core.Bool.{Bool, true, false}
 use mathlib.Core.List.{List, [], _∷_, _++_}
-use Prim.Native.Nat.{ℕ, zero, suc, _+_, _-_, _≤_}
+use Prim.Native.Nat.{ℕ, zero, suc, _+_, _-_, _≤_, _<_}
 use native.Mathlib.Nat.{suc-add, zero-add}
 use native.Mathlib.Omega.{arith}
 use lib.ListN.{length, take, drop, length-append, length-drop}
-use lib.Seq.{sets, length-take-le, take-nil, take-take}
+use borrow.Author.Tests.{leb-true, leb-false}
+use lib.Dec.{leb}
+use lib.Seq.{sets, length-sets, length-take-le, take-all, take-nil, take-take}
 use Rattle.base.proofs.Places.{sets-append, take-sets}
+use Rattle.places.proofs.Copies.{sets-room}
 use Rattle.mop_block.specs.Block.{rolled}
+
+-- as many entries of a block are there as the list has places
+copied-by : (block old : List ℕ) (t : Bool) → leb (length block) (length old) ≡ t → take (length block) (sets old 0 block) ≡ take (length old) block
+copied-by block old true e =
+    let room : length block ≤ length old = leb-true (length block) (length old) e in
+    take-sets block old room ∙ sym (take-all (length old) block room)
+copied-by block old false e =
+    let full : length old < length block = leb-false (length block) (length old) e in
+    let new = take (length old) block in
+    let long : length new ≡ length old = length-take-le (length old) block (omega arith) in
+    let same : sets old 0 new ≡ sets old 0 block = sets-room old 0 (length old) block (zero-add (length old)) (omega arith) in
+    let whole : take (length new) (sets old 0 new) ≡ sets old 0 new = take-all (length new) (sets old 0 new) (omega (arith, length-sets old 0 new)) in
+    ap (take (length block)) (sym same) ∙ take-all (length block) (sets old 0 new) (omega (arith, length-sets old 0 new)) ∙ sym whole
+    ∙ take-sets new old (omega arith)
+
+pub block-copied : (block old : List ℕ) → take (length block) (sets old 0 block) ≡ take (length old) block
+block-copied block old = copied-by block old (leb (length block) (length old)) refl
 
 drop-take : (k n : ℕ) (l : List ℕ) → drop k (take (k + n) l) ≡ take n (drop k l)
 drop-take zero n l = ap (λ (m : ℕ). take m l) (zero-add n)

@@ -22,6 +22,10 @@ pub record Head : Type 0 where
 abbrev pub head : Function → ℕ → Form → List ℕ → Head
 head function control form block = record { function = function; control = control; form = form; block = block }
 
+-- the most entries of a block
+abbrev pub maxEntries : ℕ
+maxEntries = 32
+
 -- what a header of the code stands for: the block is the first count entries, and those behind them mean nothing
 abbrev pub headOf : Header → Head
 headOf h = head (h .function) (h .control) (h .form) (take (h .count) (h .entries))

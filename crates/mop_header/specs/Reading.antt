@@ -8,7 +8,7 @@ use lib.ListN.{length, getD, take, drop}
 use Rattle.base.specs.Choice.{pick}
 use Rattle.refusal.specs.Numbers.{numberOf}
 use Rattle.mop_block.specs.Block.{stations, goodBlock}
-use Rattle.mop_header.specs.Header.{Head, head, headOf, functionByte, isMark, markAgrees}
+use Rattle.mop_header.specs.Header.{Head, head, maxEntries, headOf, functionByte, isMark, markAgrees}
 use Rattle.mop_header.specs.declared.Function.{Function}
 use Rattle.mop_header.specs.declared.Function.the-variants.{Request, Reply}
 use Rattle.mop_header.specs.declared.Form.the-variants.{Standard, Extended}
@@ -68,7 +68,7 @@ abbrev pub countAt : List ℕ → ℕ
 countAt tg = getD tg 6 0
 
 abbrev pub goodCount : ℕ → Bool
-goodCount n = leb 2 n && leb n 32
+goodCount n = leb 2 n && leb n maxEntries
 
 unfoldable pub extendedReading : Reader → List ℕ → Reading
 extendedReading who tg =

@@ -13,14 +13,14 @@ ghost use Rattle.refusal.specs.Numbers.{numberOf};
 ghost use Rattle.refusal.specs.Writing.{fillingOf};
 ghost use Rattle.mop_block.specs.Block.{rolled, first, next};
 ghost use Rattle.mop_header.specs.declared.Function.the-variants.{Request, Reply};
-ghost use Rattle.mop_header.specs.Header.{head, headOf, functionByte, headerBytes, headerLength, telegramOf, isMark, markByte, markIs, withMark, remarked, rolledLeft, rolledRight, asReply};
+ghost use Rattle.mop_header.specs.Header.{head, maxEntries, headOf, functionByte, headerBytes, headerLength, telegramOf, isMark, markByte, markIs, withMark, remarked, rolledLeft, rolledRight, asReply};
 ghost use Rattle.mop_header.specs.Reading.{readingOf, faulty, allowed, goodFor, judged, standardReading, extendedReading, reading};
 
 // The mark's bytes, but for the first one that may be 00.
-const MARK: u8 = 0xEF;
+pub const MARK: u8 = 0xEF;
 
 // The control byte of a new telegram.
-const NEW_CONTROL: u8 = 0xFF;
+pub const NEW_CONTROL: u8 = 0xFF;
 
 // The most bytes of a telegram.
 pub const MAX_TELEGRAM: usize = 1024;
@@ -105,6 +105,21 @@ fn with_mark(form: Form, mark: u8) -> Form
 }
 
 impl Header {
+    // A header of these parts. Of a block with more than 32 entries it has the first 32.
+    pub fn new(function: Function, control: u8, form: Form, block: &[u8]) -> Self
+        ensures { λ r. ⌜ headOf r ≡ head function control form (take maxEntries (now (block .entry))) ⌝ }
+    {
+        let mut entries = [0u8; MAX_ENTRIES];
+        places::put(block, &mut entries, 0);
+        Header {
+            function,
+            control,
+            form,
+            count: block.len(),
+            entries,
+        }
+    }
+
     // How many entries the block has.
     pub fn entry_count(self) -> usize
         ensures { λ r. ⌜ r ≡ length (headOf self .block) ⌝ }
@@ -387,16 +402,6 @@ fn fault(refusal: Refusal) -> HeaderRead
     }
 }
 
-// An array whose first places are the block.
-fn copied(block: &[u8]) -> [u8; MAX_ENTRIES]
-    requires { ⌜ length (now block) ≤ 32 ⌝ }
-    ensures { λ r. ⌜ take (length (now (block .entry))) r ≡ now (block .entry) ⌝ }
-{
-    let mut entries = [0u8; MAX_ENTRIES];
-    places::put(block, &mut entries, 0);
-    entries
-}
-
 // Whether a reader takes a block.
 fn good_for(reader: Reader, block: &[u8]) -> bool
     ensures { λ r. ⌜ r ≡ goodFor reader (now (block .entry)) ⌝ }
@@ -422,14 +427,7 @@ fn judge(reader: Reader, function: Function, control: u8, form: Form, block: &[u
     if !has_mark(form, mark_of(function, block[0])) {
         return fault(Refusal::Mark);
     }
-    let entries = copied(block);
-    let header = Header {
-        function,
-        control,
-        form,
-        count: block.len(),
-        entries,
-    };
+    let header = Header::new(function, control, form, block);
     HeaderRead {
         verdict: Verdict::Fine,
         header,

@@ -1,10 +1,9 @@
 -- `judge`: the block, then the mark; the entries are those of the block.
 -- Assumes nothing.
 use mathlib.Core.Path.{sym, _∙_, ap}
-use mathlib.Core.List.{List}
-use Prim.Native.Nat.{ℕ}
+use lib.Seq.{take-all}
 use borrow.Author.Tests.{not-true, not-false}
-use Rattle.mop_header.specs.Header.{head}
+use Rattle.mop_header.specs.Header.{head, maxEntries}
 use Rattle.mop_header.specs.Reading.{sound}
 use Rattle.mop_header.proofs.Marks.{mark-decides}
 use Rattle.mop_header.proofs.Steps.{bad-block, bad-mark, judged-sound}
@@ -39,15 +38,16 @@ returns-2 c =
     let mark = sym (mark-decides _ _ _ _ (c .before .before .before .mark-of .ensures) (c .before .before .has-mark .ensures)) ∙ not-true _ (c .before .if2 .taken) in
     c .fault2 .ensures ∙ sym (bad-mark _ _ good mark)
 
-copied-requires : tie.Need-copied-requires
-copied-requires c κs = search needs
+new-requires : tie.Need-new-requires
+new-requires c κs = search needs
 
 returns-3 : tie.Need-returns-3
 returns-3 c =
     let a = c .before .before .before .before .before .before .before .before .args in
     let good = sym (c .before .before .before .before .before .before .good-for .ensures) ∙ not-false _ (c .before .before .before .before .before .if1 .left) in
     let mark = sym (mark-decides _ _ _ _ (c .before .before .before .mark-of .ensures) (c .before .before .has-mark .ensures)) ∙ not-false _ (c .before .if2 .left) in
-    ap (λ (b : List ℕ). sound (head (a .function) (a .control) (a .form) b)) (c .copied .ensures) ∙ sym (judged-sound _ _ good mark)
+    ap sound (c .new .ensures ∙ ap (head (a .function) (a .control) (a .form)) (take-all maxEntries (a .block .now) (search needs)))
+    ∙ sym (judged-sound _ _ good mark)
 
 pub judge-spec : {M : Type 1} → statement M
 judge-spec =
@@ -61,5 +61,5 @@ judge-spec =
     has-mark-requires
     fault-requires-2
     returns-2
-    copied-requires
+    new-requires
     returns-3)
