@@ -1,0 +1,3 @@
+pub mod Routes
+pub mod Requests
+pub mod Replies

@@ -1,0 +1,110 @@
+-- `read_reply_values`: by the verdict; the stretch begins three bytes behind the header.
+-- Assumes nothing.
+use lib.ListN.{length}
+use mathlib.Core.Path.{_≡_, refl, sym, _∙_, ap}
+use native.Mathlib.Omega.{arith}
+use Rattle.mop_centre.specs.Reply.{receiptOf, unread, replyReading, Begins}
+use Rattle.mop_centre.specs.declared.ReplyVerdict.{ReplyVerdict}
+use Rattle.mop_centre.proofs.Replies.{body-room, stretch-bytes, stretch-place, not-mine-read, refused-read, no-bytes}
+use borrow.Author.Needs.{needs}
+use Rattle.mop_centre.proofs.read_reply_values.Statement.{statement}
+use Rattle.mop_centre.proofs.read_reply_values.Tie as tie
+
+open-reply-requires : tie.Need-open-reply-requires
+open-reply-requires c κs = search needs
+
+enum-told : tie.Need-enum-told
+enum-told c = search needs
+
+length-requires : tie.Need-length-requires
+length-requires c κs = search needs
+
+add-start : tie.Need-add-start
+add-start c = search needs
+
+sub-result : tie.Need-sub-result
+sub-result c =
+    let opened = c .before .before .before .before .open-reply in
+    let accepted = sym (opened .ensures .0) ∙ ap receiptOf (c .before .enum-told .given .1) in
+    omega (arith, body-room _ (opened .ensures .1) accepted)
+
+part-result-start : tie.Need-part-result-start
+part-result-start c =
+    let opened = c .before .before .before .before .open-reply in
+    let accepted = sym (opened .ensures .0) ∙ ap receiptOf (c .before .enum-told .given .1) in
+    omega (arith, body-room _ (opened .ensures .1) accepted)
+
+part-result-end : tie.Need-part-result-end
+part-result-end c = search needs
+
+enum-told-2 : tie.Need-enum-told-2
+enum-told-2 c = search needs
+
+sub-result-2 : tie.Need-sub-result-2
+sub-result-2 c = search needs
+
+part-result-start-2 : tie.Need-part-result-start-2
+part-result-start-2 c = search needs
+
+part-result-end-2 : tie.Need-part-result-end-2
+part-result-end-2 c = search needs
+
+enum-told-3 : tie.Need-enum-told-3
+enum-told-3 c = search needs
+
+sub-result-3 : tie.Need-sub-result-3
+sub-result-3 c = search needs
+
+part-result-start-3 : tie.Need-part-result-start-3
+part-result-start-3 c = search needs
+
+part-result-end-3 : tie.Need-part-result-end-3
+part-result-end-3 c = search needs
+
+returns : tie.Need-returns
+returns c =
+    let opened = c .before .before .before .before .before .open-reply in
+    let accepted = sym (opened .ensures .0) ∙ ap receiptOf (c .before .before .enum-told .given .1) in
+    let tg = c .before .before .before .before .before .before .before .args .telegram .now in (
+      stretch-bytes tg (opened .ensures .1) accepted (c .before .length .ensures .0),
+      rw (stretch-place tg (opened .ensures .1) accepted (c .before .length .ensures .0)) refl,
+    )
+
+returns-2 : tie.Need-returns-2
+unfolding unread
+returns-2 c =
+    let opened = c .before .before .before .before .open-reply in
+    let receipt = sym (opened .ensures .0) ∙ ap receiptOf (c .before .enum-told2 .given .1) in
+    let tg = c .before .before .before .before .before .before .args .telegram .now in
+    rw (not-mine-read tg receipt) (no-bytes tg, (length tg, omega arith, refl))
+
+returns-3 : tie.Need-returns-3
+unfolding unread
+returns-3 c =
+    let opened = c .before .before .before .before .open-reply in
+    let receipt = sym (opened .ensures .0) ∙ ap receiptOf (c .before .enum-told3 .given .1) in
+    let tg = c .before .before .before .before .before .before .args .telegram .now in
+    rw (refused-read tg receipt) (no-bytes tg, (length tg, omega arith, refl))
+
+pub read-reply-values-spec : {M : Type 1} → statement M
+read-reply-values-spec =
+    tie.close
+    (tie.spec
+    open-reply-requires
+    enum-told
+    length-requires
+    add-start
+    sub-result
+    part-result-start
+    part-result-end
+    enum-told-2
+    sub-result-2
+    part-result-start-2
+    part-result-end-2
+    enum-told-3
+    sub-result-3
+    part-result-start-3
+    part-result-end-3
+    returns
+    returns-2
+    returns-3)

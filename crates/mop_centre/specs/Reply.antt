@@ -1,0 +1,107 @@
+-- What the centre reads in a telegram.
+-- Assumes nothing.
+use Prim.Native.Nat.{ℕ, _+_, _*_, _≤_}
+use mathlib.Core.Path.{_≡_}
+use mathlib.Core.Bool.{not}
+use mathlib.Core.List.{List, []}
+use lib.Dec.{eqb}
+use lib.ListN.{length}
+use denote.Ref.{RefT, ptr, now}
+use Rattle.base.specs.Choice.{pick}
+use Rattle.base.specs.Places.{placed}
+use Rattle.refusal.specs.Numbers.{numberOf}
+use Rattle.mop_block.specs.Block.{stations, first}
+use Rattle.mop_block.specs.Zipper.{zeros}
+use Rattle.mop_header.specs.Header.{Head, headerLength, bodyOf}
+use Rattle.mop_header.specs.Reading.{Finding, fine, fault, reading}
+use Rattle.mop_header.specs.declared.Reader.the-variants.{Centre}
+use Rattle.mop_body.specs.Body.{readStart, readCount, valueBytes}
+use Rattle.mop_centre.specs.Request.{maxRoute}
+use Rattle.mop_centre.specs.declared.ReplyVerdict.{ReplyVerdict}
+use Rattle.mop_centre.specs.declared.ReplyVerdict.the-variants.{Accepted, NotMine, Refused}
+use Rattle.mop_centre.specs.declared.ReplyRead.{ReplyRead}
+
+-- what the centre says of a telegram: it is a reply for the centre; "not mine"; or the number of a refusal
+pub data Receipt : Type 0 where
+  accepted : Receipt
+  notMine : Receipt
+  refuses : ℕ → Receipt
+
+abbrev pub receiptOf : ReplyVerdict → Receipt
+receiptOf Accepted = accepted
+receiptOf NotMine = notMine
+receiptOf (Refused r) = refuses (numberOf r)
+
+-- 7 for a body that is not as long as its count says
+unfoldable pub judgedReply : List ℕ → Receipt
+judgedReply body = pick (not (eqb (length body) (3 + 2 * readCount body))) (refuses 7) accepted
+
+-- a fault of the header is refused; a first entry that is not 00 is a station's, and "not mine"; then the body
+unfoldable pub receiving : Finding → Head → List ℕ → Receipt
+receiving (fault k) h telegram = refuses k
+receiving fine h telegram = pick (eqb (first (h .block)) 0) (judgedReply (bodyOf h telegram)) notMine
+
+-- the whole verdict: 12 and 2 to 6 by `reading`, then "not mine", then 7
+unfoldable pub replyReceipt : List ℕ → Receipt
+replyReceipt telegram = receiving (reading Centre telegram .finding) (reading Centre telegram .header) telegram
+
+-- what is told of a reply: the verdict, the route in its places, read start and read count
+pub record Answer : Type 0 where
+  pub receipt : Receipt
+  pub route : List ℕ
+  pub start : ℕ
+  pub count : ℕ
+
+abbrev pub told : Receipt → List ℕ → ℕ → ℕ → Answer
+told receipt route start count = record { receipt = receipt; route = route; start = start; count = count }
+
+abbrev pub answerOf : ReplyRead → Answer
+answerOf r = told (receiptOf (r .verdict)) (r .route) (r .start) (r .count)
+
+-- where in the telegram a stretch of it begins: at a place; or anywhere, which is left free
+pub data Place : Type 0 where
+  at : ℕ → Place
+  anywhere : Place
+
+-- what reading a reply gives: what is told of it, and the stretch that holds the values, its bytes and where it begins
+pub record Reply : Type 0 where
+  pub answer : Answer
+  pub values : List ℕ
+  pub begins : Place
+
+-- the stations in order, and 0 in the places that are left
+unfoldable pub routePlaces : List ℕ → List ℕ
+routePlaces route = placed route (zeros maxRoute)
+
+-- an accepted reply, of its header and its body
+unfoldable pub readOut : Head → List ℕ → Reply
+readOut h body = record {
+  answer = told accepted (routePlaces (stations (h .block))) (readStart body) (readCount body);
+  values = valueBytes body;
+  begins = at (headerLength h + 3);
+}
+
+-- any other: zeros, and an empty stretch
+unfoldable pub unread : Receipt → Reply
+unread r = record {
+  answer = told r (zeros maxRoute) 0 0;
+  values = [];
+  begins = anywhere;
+}
+
+unfoldable pub opened : Receipt → Head → List ℕ → Reply
+opened accepted h telegram = readOut h (bodyOf h telegram)
+opened notMine h telegram = unread notMine
+opened (refuses k) h telegram = unread (refuses k)
+
+-- both calls are of this: one gives the answer, the other the stretch
+unfoldable pub replyReading : List ℕ → Reply
+replyReading telegram = opened (replyReceipt telegram) (reading Centre telegram .header) telegram
+
+-- a slice that begins so in the telegram: it is lent from the telegram's own bytes, so many behind the first of them
+abbrev pub LiesAt : RefT (List ℕ) → RefT (List ℕ) → ℕ → Type 0
+LiesAt telegram r place = ptr r ≡ (ptr telegram .0, place + ptr telegram .1)
+
+abbrev pub Begins : RefT (List ℕ) → RefT (List ℕ) → Place → Type 0
+Begins telegram r (at place) = LiesAt telegram r place
+Begins telegram r anywhere = (place : ℕ) × (place ≤ length (now telegram)) × LiesAt telegram r place
