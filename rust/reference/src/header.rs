@@ -70,6 +70,12 @@ pub const STATION: Reader = Reader {
     takes_nobody: true,
 };
 
+/// The centre reads replies only, and each of them comes from somebody.
+pub const CENTRE: Reader = Reader {
+    takes_requests: false,
+    takes_nobody: false,
+};
+
 /// A header without fault.
 ///
 /// The mark of the extended form is not kept: kind and block decide it.
@@ -207,12 +213,6 @@ pub fn read(reader: Reader, telegram: &[u8]) -> Result<(Header, &[u8]), u8> {
 #[cfg(test)]
 mod tests {
     use super::*;
-
-    /// One who takes replies only, and none that names nobody.
-    const STRICT: Reader = Reader {
-        takes_requests: false,
-        takes_nobody: false,
-    };
 
     fn refusal(telegram: &[u8]) -> Option<u8> {
         read(STATION, telegram).err()
@@ -570,8 +570,8 @@ mod tests {
     }
 
     #[test]
-    fn strict_reader() {
-        let refusal = |telegram: &[u8]| read(STRICT, telegram).err();
+    fn reader_at_the_centre() {
+        let refusal = |telegram: &[u8]| read(CENTRE, telegram).err();
 
         for function in 0..=u8::MAX {
             let telegram = short(function, [0x00, 0x12, 0x13, 0x55]);

@@ -12,7 +12,7 @@ pub const HEADER_CUT_SHORT: u8 = 2;
 pub const BAD_FUNCTION: u8 = 3;
 /// An extended block of a length that cannot be.
 pub const BAD_COUNT: u8 = 4;
-/// The addresses of the block do not go together.
+/// The addresses of the block, or of the route, do not go together.
 pub const BAD_BLOCK: u8 = 5;
 /// An extended reply's mark says something else than its block.
 pub const BAD_MARK: u8 = 6;
@@ -26,5 +26,6 @@ pub const NOT_WRITABLE: u8 = 9;
 pub const OUT_OF_RANGE: u8 = 10;
 /// The output cannot hold all that is to be written.
 pub const OUTPUT_TOO_SHORT: u8 = 11;
-/// More data than a block carries, or a longer telegram than there may be.
+/// More data than a block carries, a longer telegram than there may be, or a run of more
+/// registers than a telegram can count.
 pub const TOO_LONG: u8 = 12;
