@@ -36,7 +36,7 @@ pub record Faultless (form : Form) (b body : List ℕ) : Type 0 where
   pub size : sized form (length b) ≡ true
   pub short : headerRoom form (length b) + length body ≤ maxTelegram
 
-sized-with : (form : Form) (k n : ℕ) → sized (withMark form k) n ≡ sized form n
+pub sized-with : (form : Form) (k n : ℕ) → sized (withMark form k) n ≡ sized form n
 unfolding sized withMark
 sized-with Standard k n = refl
 sized-with (Extended mark) k n = refl

@@ -2,7 +2,7 @@
 -- Assumes nothing.
 use mathlib.Core.Path.{_≡_, refl}
 use mathlib.Core.List.{List, [], _∷_, _++_}
-use Prim.Native.Nat.{ℕ, _-_}
+use Prim.Native.Nat.{ℕ, _-_, _<_}
 use native.Mathlib.Omega.{arith}
 use lib.ListN.{length, length-append, length-take, length-drop}
 use lib.Seq.{take-at, drop-at}
@@ -29,3 +29,8 @@ unfolding rollRight rolled
 right-snoc xs x =
     let e : length (xs ++ (x ∷ [])) - 1 ≡ length xs = simp length-append (omega arith) in
     rw (e, drop-at xs (x ∷ []) (length xs) refl, take-at xs (x ∷ []) (length xs) refl)
+
+-- to the left, and back
+pub right-left : (b : List ℕ) → 0 < length b → rollRight (rollLeft b) ≡ b
+right-left [] h = absurd (omega arith)
+right-left (x ∷ b) h = rw (left-cons x b) (right-snoc b x)

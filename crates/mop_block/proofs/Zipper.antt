@@ -27,7 +27,7 @@ zeros-snoc : (n : ℕ) → zeros (suc n) ≡ zeros n ++ (0 ∷ [])
 zeros-snoc zero = refl
 zeros-snoc (suc n) = ap (λ (l : List ℕ). 0 ∷ l) (zeros-snoc n)
 
-last-zero : (ahead : List ℕ) (z : ℕ) → spread ahead z [] ≡ (ahead ++ zeros z) ++ (0 ∷ [])
+pub last-zero : (ahead : List ℕ) (z : ℕ) → spread ahead z [] ≡ (ahead ++ zeros z) ++ (0 ∷ [])
 last-zero ahead z = rw (append-nil (zeros z), append-assoc) (ap (λ (l : List ℕ). ahead ++ l) (zeros-snoc z))
 
 pub right-returns : RightReturns

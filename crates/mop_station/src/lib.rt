@@ -10,7 +10,7 @@ ghost use mathlib.Core.Path.{_≡_};
 ghost use Prim.Native.Nat.{_+_, _*_, _≤_};
 ghost use lib.ListN.{length, take, drop};
 ghost use lib.Seq.{sets};
-ghost use Rattle.base.specs.Words.{word, wordsOf, bytesOf};
+ghost use Rattle.base.specs.Words.{wordsOf};
 ghost use Rattle.base.specs.Filling.{fitted};
 ghost use Rattle.refusal.specs.Writing.{givenOf, fillingOf};
 ghost use Rattle.registers.specs.Rows.{placeOf, tableLength};

@@ -15,7 +15,7 @@ use Rattle.mop_station.specs.Station.{Handled, sent, notMine, refuses, Handling
 use Rattle.journey.specs.Net.{Net, isThere, tableAt}
 use Rattle.journey.specs.Journey.{Ending, atNobody, refusedWith, Handler, noStation, station, named, addressee, handler}
 use Rattle.journey.specs.Journey.{Course, onward, callOutput, leftBy}
-use Rattle.journey.specs.Bounded.{calling, answered, called, heardBy, playing}
+use Rattle.journey.specs.Bounded.{calling, answered, heardBy, playing}
 use Rattle.journey.proofs.Bounded.{same-calling, called-same}
 use Rattle.net.specs.Tables.{netOf, tablesOf, tablesFit}
 use Rattle.net.specs.Hop.{Hopped, goesOn, ended, Hop, hop, hoppedBy, meeting, hopping}

@@ -1,8 +1,6 @@
 -- `new`: the entries of the block are copied to the first places.
 -- Assumes nothing.
-use mathlib.Core.Path.{_∙_, ap}
-use mathlib.Core.List.{List}
-use Prim.Native.Nat.{ℕ}
+use mathlib.Core.Path.{ap}
 use Rattle.mop_header.specs.Header.{head}
 use Rattle.mop_header.proofs.Copies.{block-copied}
 use borrow.Author.Needs.{needs}
