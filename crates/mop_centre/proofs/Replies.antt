@@ -80,7 +80,7 @@ length-passed : (body : List ℕ) (t : Bool) → pick (not t) (refuses 7) accept
 length-passed body true e = refl
 length-passed body false e = absurd (refuses-accepted 7 e)
 
-first-passed : (r : Receipt) (t : Bool) → pick t r notMine ≡ accepted → (t ≡ true) × (r ≡ accepted)
+first-passed : (r : Receipt) (t : Bool) → pick (not t) notMine r ≡ accepted → (t ≡ true) × (r ≡ accepted)
 first-passed r true e = (refl, e)
 first-passed r false e = absurd (not-mine-accepted e)
 

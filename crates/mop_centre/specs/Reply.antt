@@ -36,10 +36,10 @@ receiptOf (Refused r) = refuses (numberOf r)
 unfoldable pub judgedReply : List ℕ → Receipt
 judgedReply body = pick (not (eqb (length body) (3 + 2 * readCount body))) (refuses 7) accepted
 
--- a fault of the header is refused; a first entry that is not 00 is a station's, and "not mine"; then the body
+-- a fault of the header is refused; a telegram whose first entry is not 00 is for a station, and "not mine"; then the body
 unfoldable pub receiving : Finding → Head → List ℕ → Receipt
 receiving (fault k) h telegram = refuses k
-receiving fine h telegram = pick (eqb (first (h .block)) 0) (judgedReply (bodyOf h telegram)) notMine
+receiving fine h telegram = pick (not (eqb (first (h .block)) 0)) notMine (judgedReply (bodyOf h telegram))
 
 -- the whole verdict: 12 and 2 to 6 by `reading`, then "not mine", then 7
 unfoldable pub replyReceipt : List ℕ → Receipt
@@ -64,7 +64,7 @@ pub data Place : Type 0 where
   anywhere : Place
 
 -- what reading a reply gives: what is told of it, and the stretch that holds the values, its bytes and where it begins
-pub record Reply : Type 0 where
+pub record ReplyReading : Type 0 where
   pub answer : Answer
   pub values : List ℕ
   pub begins : Place
@@ -74,7 +74,7 @@ unfoldable pub routePlaces : List ℕ → List ℕ
 routePlaces route = placed route (zeros maxRoute)
 
 -- an accepted reply, of its header and its body
-unfoldable pub readOut : Head → List ℕ → Reply
+unfoldable pub readOut : Head → List ℕ → ReplyReading
 readOut h body = record {
   answer = told accepted (routePlaces (stations (h .block))) (readStart body) (readCount body);
   values = valueBytes body;
@@ -82,23 +82,24 @@ readOut h body = record {
 }
 
 -- any other: zeros, and an empty stretch
-unfoldable pub unread : Receipt → Reply
+unfoldable pub unread : Receipt → ReplyReading
 unread r = record {
   answer = told r (zeros maxRoute) 0 0;
   values = [];
   begins = anywhere;
 }
 
-unfoldable pub opened : Receipt → Head → List ℕ → Reply
+unfoldable pub opened : Receipt → Head → List ℕ → ReplyReading
 opened accepted h telegram = readOut h (bodyOf h telegram)
 opened notMine h telegram = unread notMine
 opened (refuses k) h telegram = unread (refuses k)
 
 -- both calls are of this: one gives the answer, the other the stretch
-unfoldable pub replyReading : List ℕ → Reply
+unfoldable pub replyReading : List ℕ → ReplyReading
 replyReading telegram = opened (replyReceipt telegram) (reading Centre telegram .header) telegram
 
--- a slice that begins so in the telegram: it is lent from the telegram's own bytes, so many behind the first of them
+-- a slice that is lent from the telegram's own bytes, and begins so many behind the first of them. A pointer says in what memory a
+-- slice lies, and how many bytes behind the first one there
 abbrev pub LiesAt : RefT (List ℕ) → RefT (List ℕ) → ℕ → Type 0
 LiesAt telegram r place = ptr r ≡ (ptr telegram .0, place + ptr telegram .1)
 

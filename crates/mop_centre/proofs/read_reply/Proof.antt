@@ -1,8 +1,7 @@
 -- `read_reply`: by the verdict.
 -- Assumes nothing.
-use mathlib.Core.Path.{_≡_, sym, _∙_, ap}
-use Rattle.mop_header.specs.Header.{Head, bodyOf}
-use Rattle.mop_centre.specs.Reply.{receiptOf, Reply, readOut}
+use mathlib.Core.Path.{sym, _∙_, ap}
+use Rattle.mop_centre.specs.Reply.{receiptOf, ReplyReading}
 use Rattle.mop_centre.proofs.Replies.{body-room, route-room, reply-read, not-mine-read, refused-read}
 use borrow.Author.Needs.{needs}
 use Rattle.mop_centre.proofs.read_reply.Statement.{statement}
@@ -37,21 +36,21 @@ returns c =
     let opened = c .before .before .before .before .open-reply in
     let accepted = sym (opened .ensures .0) ∙ ap receiptOf (c .before .enum-told .given .1) in
     let tg = c .before .before .before .before .before .before .args .telegram .now in
-    c .read-out .ensures ∙ sym (ap (λ (r : Reply). r .answer) (reply-read tg (opened .ensures .1) accepted))
+    c .read-out .ensures ∙ sym (ap (λ (r : ReplyReading). r .answer) (reply-read tg (opened .ensures .1) accepted))
 
 returns-2 : tie.Need-returns-2
 returns-2 c =
     let opened = c .before .before .before .before .open-reply in
     let receipt = sym (opened .ensures .0) ∙ ap receiptOf (c .before .enum-told2 .given .1) in
     let tg = c .before .before .before .before .before .before .args .telegram .now in
-    c .unread .ensures ∙ sym (ap (λ (r : Reply). r .answer) (not-mine-read tg receipt))
+    c .unread .ensures ∙ sym (ap (λ (r : ReplyReading). r .answer) (not-mine-read tg receipt))
 
 returns-3 : tie.Need-returns-3
 returns-3 c =
     let opened = c .before .before .before .before .before .open-reply in
     let receipt = sym (opened .ensures .0) ∙ ap receiptOf (c .before .before .verdict .given .1) in
     let tg = c .before .before .before .before .before .before .before .args .telegram .now in
-    c .unread2 .ensures ∙ sym (ap (λ (r : Reply). r .answer) (refused-read tg receipt))
+    c .unread2 .ensures ∙ sym (ap (λ (r : ReplyReading). r .answer) (refused-read tg receipt))
 
 pub read-reply-spec : {M : Type 1} → statement M
 read-reply-spec =

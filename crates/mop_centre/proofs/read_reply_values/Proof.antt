@@ -1,10 +1,9 @@
 -- `read_reply_values`: by the verdict; the stretch begins three bytes behind the header.
 -- Assumes nothing.
 use lib.ListN.{length}
-use mathlib.Core.Path.{_≡_, refl, sym, _∙_, ap}
+use mathlib.Core.Path.{refl, sym, _∙_, ap}
 use native.Mathlib.Omega.{arith}
-use Rattle.mop_centre.specs.Reply.{receiptOf, unread, replyReading, Begins}
-use Rattle.mop_centre.specs.declared.ReplyVerdict.{ReplyVerdict}
+use Rattle.mop_centre.specs.Reply.{receiptOf, unread}
 use Rattle.mop_centre.proofs.Replies.{body-room, stretch-bytes, stretch-place, not-mine-read, refused-read, no-bytes}
 use borrow.Author.Needs.{needs}
 use Rattle.mop_centre.proofs.read_reply_values.Statement.{statement}
