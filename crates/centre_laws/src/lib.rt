@@ -1,0 +1,1 @@
+// From the centre's call to the centre's answer. No code.
