@@ -40,7 +40,7 @@ use Rattle.journey.specs.Transmissions.{outward, relayedBlock, homeward, reques
 use Rattle.journey.proofs.Telegrams.{sized-with}
 use Rattle.journey.proofs.Whole.{every-journey, byte-for-byte}
 use Rattle.centre_laws.specs.ReadBack.{routeEnd, ReadsAs}
-use Rattle.centre_laws.specs.Exchange.{Answered, Rejected, Exchange, EveryExchange}
+use Rattle.centre_laws.specs.Exchange.{answerFrom, Answered, Rejected, Exchange, EveryExchange}
 use Rattle.centre_laws.proofs.Requests.{Shape, shape, route-full, route-once, wrote, request-reads-back}
 use Rattle.centre_laws.proofs.Replies.{reply-reads-back}
 use Rattle.centre_laws.proofs.Rolls.{last-reply}
@@ -141,11 +141,7 @@ module _ (net : Net) (route : List ℕ) (rStart rCount wStart : ℕ) (values tel
           reply-bound body table verdict,
         )
 
-    answer-read : replyReading (lastTelegram (c .transmissions)) ≡ record {
-      answer = told accepted (routePlaces route) rStart rCount;
-      values = bytesOf (reads (tableAt (routeEnd route) (c .after)) rStart rCount);
-      begins = at (headerLength h + 3);
-    }
+    answer-read : replyReading (lastTelegram (c .transmissions)) ≡ answerFrom (tableAt (routeEnd route) (c .after)) route rStart rCount
     unfolding replyBody
     answer-read =
         let s = shape route r in

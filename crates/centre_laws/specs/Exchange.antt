@@ -11,12 +11,21 @@ use Rattle.registers.specs.Runs.{reads}
 use Rattle.mop_header.specs.Header.{headerLength}
 use Rattle.mop_station.specs.Body.{accepts, rejects, judgedRuns}
 use Rattle.mop_centre.specs.Request.{requestHead, requesting}
-use Rattle.mop_centre.specs.Reply.{accepted, told, at, routePlaces, replyReading}
+use Rattle.mop_centre.specs.Reply.{accepted, told, at, ReplyReading, routePlaces, replyReading}
 use Rattle.journey.specs.Net.{Net, goodNet, allThere, tableAt, withTable}
 use Rattle.journey.specs.Journey.{atZero, refusedWith, Course}
 use Rattle.journey.specs.Terms.{Written, lastTelegram}
 use Rattle.journey.specs.Demand3.{TheJourney}
 use Rattle.centre_laws.specs.ReadBack.{routeEnd, ReadsAs}
+
+-- what the centre reads in the reply to a request: it accepts the telegram, and is given the route that it asked by, the run that
+-- it asked for, and as values the registers of that run in a table
+abbrev pub answerFrom : List ℕ → List ℕ → ℕ → ℕ → ReplyReading
+answerFrom table route rStart rCount = record {
+  answer = told accepted (routePlaces route) rStart rCount;
+  values = bytesOf (reads table rStart rCount);
+  begins = at (headerLength (requestHead route) + 3);
+}
 
 -- the destination accepts the runs: the journey goes out and back
 pub record Answered (net : Net) (route : List ℕ) (rStart rCount wStart : ℕ) (values : List ℕ) (c : Course) : Type 0 where
@@ -25,13 +34,8 @@ pub record Answered (net : Net) (route : List ℕ) (rStart rCount wStart : ℕ) 
   -- the destination has the values that the centre handed in, and no other register of the net has changed
   pub written : Written wStart values (tableAt (routeEnd route) net) (tableAt (routeEnd route) (c .after))
   pub others : c .after ≡ withTable (routeEnd route) (tableAt (routeEnd route) (c .after)) net
-  -- the centre accepts the last telegram, and reads the route that it asked by, the run that it asked for, and as values the registers
-  -- of that run as they then are at the destination
-  pub answer : replyReading (lastTelegram (c .transmissions)) ≡ record {
-    answer = told accepted (routePlaces route) rStart rCount;
-    values = bytesOf (reads (tableAt (routeEnd route) (c .after)) rStart rCount);
-    begins = at (headerLength (requestHead route) + 3);
-  }
+  -- and the last telegram answers the centre, with the registers of the destination as they then are
+  pub answer : replyReading (lastTelegram (c .transmissions)) ≡ answerFrom (tableAt (routeEnd route) (c .after)) route rStart rCount
 
 -- the destination rejects them with k: the request reaches it, no reply comes, and nothing has changed
 pub record Rejected (net : Net) (route : List ℕ) (k : ℕ) (c : Course) : Type 0 where
