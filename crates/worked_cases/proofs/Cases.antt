@@ -9,7 +9,7 @@ use lib.ListN.{length, getD, replicate, length-replicate, drop-of-length-le}
 use Prim.Native.Nat.{ℕ, suc, _-_, _≤_}
 use native.Mathlib.Omega.{arith}
 use Rattle.base.specs.Places.{placed}
-use Rattle.base.specs.Filling.{fitted}
+use Rattle.base.specs.Filling.{filled, fitted}
 use Rattle.base.specs.Words.{wordsOf, bytesOf}
 use Rattle.link_frame.specs.Frame.{sent, doubled, xorOver, checked, checkByte, frameOf, framing}
 use Rattle.link_receive.specs.Receive.{against, afterStore, byteOf, dataOf, eventOf, insideOf, noRoom, receiveOf, restOf, storeOf, waitingOf}
@@ -21,9 +21,11 @@ use Rattle.mop_header.specs.Header.{addressBytes, headerBytes, headerLength, te
 use Rattle.mop_header.specs.Reading.{allowed, fine, functionAt, goodFor, judged, standardReading, extendedReading, reading}
 use Rattle.mop_header.specs.declared.Function.the-variants.{Request}
 use Rattle.mop_header.specs.declared.Reader.the-variants.{Station}
-use Rattle.mop_body.specs.Body.{replyWith}
+use Rattle.mop_body.specs.Body.{requestBody, replyWith}
 use Rattle.mop_station.specs.Body.{accepts, judgedRuns, judgedBody, afterWrites, replyBody}
 use Rattle.mop_station.specs.Station.{sending, relayed, relaying, replied, keptBy, answering, taking, hearing, handling}
+use Rattle.mop_centre.specs.Request.{goodRoute, requestHead, requestTelegram, requesting}
+use Rattle.mop_centre.specs.Reply.{judgedReply, receiving, replyReceipt, routePlaces, readOut, unread, opened, replyReading}
 use Rattle.journey.specs.Net.{rightTables, goodNet, isThere, allThere, tableAt, withTable}
 use Rattle.journey.specs.Journey.{Ending, Course, named, addressee, handler}
 use Rattle.journey.specs.Bounded.{calling, playing, mostTransmissions}
@@ -38,7 +40,7 @@ use Rattle.report.proofs.Journeys.{tells-the-journey}
 use Rattle.net.proofs.Tables.{good-net}
 use Rattle.net.proofs.Outputs.{length-padded}
 use Rattle.net.proofs.Journeys.{runs-the-journey}
-use Rattle.worked_cases.specs.Cases.{factoryTables, factoryNet, Travels, Tells, Accepted, _also_, none, WorkedCases}
+use Rattle.worked_cases.specs.Cases.{factoryTables, factoryNet, Travels, Tells, Accepted, Asked, _also_, none, WorkedCases}
 
 -- all of an output that a dry run fills
 padded-alone : (tg : List ℕ) → length tg ≤ runOutput → placed (padded tg) (replicate runOutput 0) ≡ padded tg
@@ -115,8 +117,15 @@ promised-by addresses tg net order request named last there verdict = record {
   verdict = verdict;
 }
 
+asked-by : (addresses route : List ℕ) (rStart rCount wStart : ℕ) (values : List ℕ) (n : ℕ) →
+    requesting route rStart rCount wStart values (replicate 1024 0) .given ≡ filled n → goodNet (factoryNet addresses) ≡ true →
+    allThere route (factoryNet addresses) ≡ true → judgedRuns rStart rCount wStart (length values) values ≡ accepts →
+    Asked addresses route rStart rCount wStart values n
+asked-by addresses route rStart rCount wStart values n written net there verdict =
+    record { written = written; net = net; there = there; verdict = verdict }
+
 pub worked-cases : WorkedCases
-unfolding placed fitted wordsOf bytesOf sent doubled xorOver checked checkByte frameOf framing against afterStore byteOf dataOf eventOf insideOf noRoom receiveOf restOf storeOf waitingOf feed tableLength placeOf exists mayWrite takes factory runExists runMayWrite runTakes writes reads isAddress has distinctAddresses stations zeroEnds around goodBlock first next rolled rollLeft rollRight addressBytes headerBytes headerLength telegramOf bodyOf mayBegin isMark markByte markIs withMark markAgrees remarked rolledLeft rolledRight asReply sentBack allowed functionAt goodFor judged standardReading extendedReading reading judgedRuns judgedBody afterWrites replyWith replyBody sending relayed relaying replied keptBy answering taking hearing handling rightTables goodNet isThere allThere tableAt withTable named addressee handler calling playing netOf tablesOf tablesFit setUp lastTelegram padded hexDigit hexBytes decimal line lines sentText endingText closing courseText refusedText outrightText toldOf reporting
+unfolding placed fitted wordsOf bytesOf sent doubled xorOver checked checkByte frameOf framing against afterStore byteOf dataOf eventOf insideOf noRoom receiveOf restOf storeOf waitingOf feed tableLength placeOf exists mayWrite takes factory runExists runMayWrite runTakes writes reads isAddress has distinctAddresses stations zeroEnds around goodBlock first next rolled rollLeft rollRight addressBytes headerBytes headerLength telegramOf bodyOf mayBegin isMark markByte markIs withMark markAgrees remarked rolledLeft rolledRight asReply sentBack allowed functionAt goodFor judged standardReading extendedReading reading judgedRuns judgedBody afterWrites replyWith replyBody sending relayed relaying replied keptBy answering taking hearing handling rightTables goodNet isThere allThere tableAt withTable named addressee handler calling playing netOf tablesOf tablesFit setUp lastTelegram padded hexDigit hexBytes decimal line lines sentText endingText closing courseText refusedText outrightText toldOf reporting requestBody goodRoute requestHead requestTelegram requesting judgedReply receiving replyReceipt routePlaces readOut unread opened replyReading
 worked-cases =
     refl also refl also refl also refl also refl also refl also refl also refl also refl also refl also refl also refl also refl also refl also refl also refl
     also refl also refl also travels-by _ _ refl refl _ _ _ refl refl refl refl
@@ -130,4 +139,9 @@ worked-cases =
     also tells-by _ _ refl refl _ refl
     also travels-by _ _ refl refl _ _ _ refl refl refl refl
     also outright-by _ _ _ refl
+    also refl also refl also refl also refl also refl also refl
+    also asked-by _ _ _ _ _ _ _ refl refl refl refl
+    also refl also refl also refl also refl also refl
+    also refl
+    also refl also refl also refl also refl also refl also refl also refl also refl
     also none

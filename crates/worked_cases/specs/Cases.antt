@@ -6,7 +6,7 @@ use mathlib.Core.Path.{_≡_}
 use mathlib.Core.Bool.{true}
 use mathlib.Core.List.{List, [], _∷_, _++_}
 use lib.ListN.{length, replicate}
-use Rattle.base.specs.Filling.{filled}
+use Rattle.base.specs.Filling.{filled, denied}
 use Rattle.link_frame.specs.Frame.{framing}
 use Rattle.link_receive.specs.Receive.{Response, nothing, sends, at}
 use Rattle.link_receive.specs.declared.Phase.the-variants.{Rest}
@@ -16,8 +16,11 @@ use Rattle.mop_block.specs.Block.{stations}
 use Rattle.mop_header.specs.Header.{Head, bodyOf}
 use Rattle.mop_header.specs.Reading.{sound, reading}
 use Rattle.mop_header.specs.declared.Reader.the-variants.{Station}
-use Rattle.mop_station.specs.Body.{accepts, judgedBody}
+use Rattle.mop_station.specs.Body.{accepts, judgedRuns, judgedBody}
 use Rattle.mop_station.specs.Station.{sent, refuses, leaving, handling}
+use Rattle.mop_centre.specs.Request.{requesting}
+use Rattle.mop_centre.specs.Reply.{Receipt, accepted, told, routePlaces, unread, replyReading}
+use Rattle.mop_centre.specs.Reply as centre
 use Rattle.journey.specs.Net.{Net, goodNet, allThere}
 use Rattle.journey.specs.Journey.{Ending, atZero, atNobody, refusedWith, Course, Journey}
 use Rattle.journey.specs.Terms.{Fresh, lastTelegram}
@@ -60,6 +63,13 @@ pub record Accepted (addresses tg : List ℕ) : Type 0 where
   pub there : allThere (stations (head .block)) (factoryNet addresses) ≡ true
   pub verdict : judgedBody (bodyOf head tg) ≡ accepts
 
+-- all that the exchange asks of a net, a request that the centre writes into 1,024 places, and its destination
+pub record Asked (addresses route : List ℕ) (rStart rCount wStart : ℕ) (values : List ℕ) (n : ℕ) : Type 0 where
+  pub written : requesting route rStart rCount wStart values (replicate 1024 0) .given ≡ filled n
+  pub net : goodNet (factoryNet addresses) ≡ true
+  pub there : allThere route (factoryNet addresses) ≡ true
+  pub verdict : judgedRuns rStart rCount wStart (length values) values ≡ accepts
+
 pub data Case : Type 0 where
   -- data, and its frame
   frames : List ℕ → List ℕ → Case
@@ -75,6 +85,14 @@ pub data Case : Type 0 where
   tells : List ℕ → List ℕ → String → Case
   -- the addresses of stations, and a first telegram that demand 3 promises the whole way out and back
   promised : List ℕ → List ℕ → Case
+  -- a route, read start and count, write start and values, and the request that the centre writes; or the number that it refuses with
+  requests : List ℕ → ℕ → ℕ → ℕ → List ℕ → List ℕ → Case
+  noRequest : List ℕ → ℕ → ℕ → ℕ → List ℕ → ℕ → Case
+  -- a telegram, and what the centre reads in it: route, read start and count, and the bytes of the values; or why it does not take it
+  replies : List ℕ → List ℕ → ℕ → ℕ → List ℕ → Case
+  noReply : List ℕ → Receipt → Case
+  -- the addresses of stations, a route, read start and count, write start and values, and the length of a request that is answered
+  asks : List ℕ → List ℕ → ℕ → ℕ → ℕ → List ℕ → ℕ → Case
 
 -- what a case says of the calls; a station has factory values and an output of 1,024 places
 abbrev pub Holds : Case → Type 0
@@ -86,6 +104,14 @@ Holds (sentAt own tg answer after) =
 Holds (travels addresses tg transmissions e after) = Travels addresses tg transmissions e after
 Holds (tells addresses tg text) = Tells addresses tg (codes text)
 Holds (promised addresses tg) = Accepted addresses tg
+Holds (requests route rStart rCount wStart values tg) =
+    requesting route rStart rCount wStart values (replicate (length tg) 0) ≡ record { given = filled (length tg); output = tg }
+Holds (noRequest route rStart rCount wStart values k) =
+    requesting route rStart rCount wStart values (replicate 1024 0) ≡ denied k (replicate 1024 0)
+Holds (replies tg route start count bytes) =
+    replyReading tg ≡ record { answer = told accepted (routePlaces route) start count; values = bytes; begins = centre.at (length tg - length bytes) }
+Holds (noReply tg r) = replyReading tg ≡ unread r
+Holds (asks addresses route rStart rCount wStart values n) = Asked addresses route rStart rCount wStart values n
 
 -- each case of a list holds
 infixr 5 _also_
@@ -169,6 +195,34 @@ cases =
     ∷ travels [] (0x60 ∷ 0xFF ∷ 0x12 ∷ 0x00 ∷ 0x00 ∷ 0x00 ∷ []) ((0x60 ∷ 0xFF ∷ 0x12 ∷ 0x00 ∷ 0x00 ∷ 0x00 ∷ []) ∷ []) atNobody []
     -- besides, ours: a telegram that is refused outright
     ∷ tells (0x12 ∷ 0x13 ∷ 0x55 ∷ []) (0x60 ∷ 0xFF ∷ 0x12 ∷ 0x12 ∷ 0x55 ∷ 0x00 ∷ []) "refused 5\n"
+    -- the centre writes the requests of the journeys above: over two relays, over one, and by an extended route
+    ∷ requests (0x12 ∷ 0x13 ∷ 0x55 ∷ []) 955 1 300 (1 ∷ []) (0x60 ∷ 0xFF ∷ 0x12 ∷ 0x13 ∷ 0x55 ∷ 0x00 ∷ 0x03 ∷ 0xBB ∷ 0x01 ∷ 0x01 ∷ 0x2C ∷ 0x01 ∷ 0x00 ∷ 0x01 ∷ [])
+    ∷ requests (0x12 ∷ 0x55 ∷ []) 0 0 0 [] (0x60 ∷ 0xFF ∷ 0x12 ∷ 0x55 ∷ 0x00 ∷ 0x00 ∷ 0x00 ∷ 0x00 ∷ 0x00 ∷ 0x00 ∷ 0x00 ∷ 0x00 ∷ [])
+    ∷ requests (0x21 ∷ 0x22 ∷ 0x23 ∷ 0x24 ∷ 0x25 ∷ []) 957 2 958 (45 ∷ []) (0x60 ∷ 0xFF ∷ 0xEF ∷ 0xEF ∷ 0xEF ∷ 0xEF ∷ 0x06 ∷ 0x21 ∷ 0x22 ∷ 0x23 ∷ 0x24 ∷ 0x25 ∷ 0x00 ∷ 0x03 ∷ 0xBD ∷ 0x02 ∷ 0x03 ∷ 0xBE ∷ 0x01 ∷ 0x00 ∷ 0x2D ∷ [])
+    -- and reads the last telegrams of these journeys
+    ∷ replies (0xE0 ∷ 0xFF ∷ 0x00 ∷ 0x12 ∷ 0x13 ∷ 0x55 ∷ 0x03 ∷ 0xBB ∷ 0x01 ∷ 0x00 ∷ 0x00 ∷ []) (0x12 ∷ 0x13 ∷ 0x55 ∷ []) 955 1 (0x00 ∷ 0x00 ∷ [])
+    ∷ replies (0xE0 ∷ 0xFF ∷ 0x00 ∷ 0x12 ∷ 0x55 ∷ 0x00 ∷ 0x00 ∷ 0x00 ∷ 0x00 ∷ []) (0x12 ∷ 0x55 ∷ []) 0 0 []
+    ∷ replies (0xE0 ∷ 0xFF ∷ 0x00 ∷ 0xEF ∷ 0xEF ∷ 0xEF ∷ 0x06 ∷ 0x00 ∷ 0x21 ∷ 0x22 ∷ 0x23 ∷ 0x24 ∷ 0x25 ∷ 0x03 ∷ 0xBD ∷ 0x02 ∷ 0xFF ∷ 0xFF ∷ 0x00 ∷ 0x2D ∷ []) (0x21 ∷ 0x22 ∷ 0x23 ∷ 0x24 ∷ 0x25 ∷ []) 957 2 (0xFF ∷ 0xFF ∷ 0x00 ∷ 0x2D ∷ [])
+    -- the exchange promises the first of them
+    ∷ asks (0x12 ∷ 0x13 ∷ 0x55 ∷ []) (0x12 ∷ 0x13 ∷ 0x55 ∷ []) 955 1 300 (1 ∷ []) 14
+    -- besides, ours: no station, a station twice, no address; a run of 256; and a bad route beside such a run
+    ∷ noRequest [] 955 1 300 (1 ∷ []) 5
+    ∷ noRequest (0x12 ∷ 0x12 ∷ []) 955 1 300 (1 ∷ []) 5
+    ∷ noRequest (0xF1 ∷ []) 955 1 300 (1 ∷ []) 5
+    ∷ noRequest (0x12 ∷ []) 955 256 300 (1 ∷ []) 12
+    ∷ noRequest [] 955 256 300 (1 ∷ []) 5
+    -- besides, ours: behind the mark 00 EF EF EF of a reply stands a block of two entries, and EF is no station of it
+    ∷ replies (0xE0 ∷ 0xFF ∷ 0x00 ∷ 0xEF ∷ 0xEF ∷ 0xEF ∷ 0x02 ∷ 0x00 ∷ 0x12 ∷ 0x01 ∷ 0x2C ∷ 0x01 ∷ 0x00 ∷ 0x03 ∷ []) (0x12 ∷ []) 300 1 (0x00 ∷ 0x03 ∷ [])
+    -- besides, ours: a telegram for station 12, also with a body of the wrong length; a request; a block that names nobody, also with
+    -- the wrong mark; a wrong mark; and a body one byte short, and one byte long
+    ∷ noReply (0xE0 ∷ 0xFF ∷ 0x12 ∷ 0x13 ∷ 0x55 ∷ 0x00 ∷ 0x03 ∷ 0xBB ∷ 0x01 ∷ 0x00 ∷ 0x00 ∷ []) centre.notMine
+    ∷ noReply (0xE0 ∷ 0xFF ∷ 0x12 ∷ 0x13 ∷ 0x55 ∷ 0x00 ∷ 0x03 ∷ 0xBB ∷ 0x01 ∷ 0x00 ∷ []) centre.notMine
+    ∷ noReply (0x60 ∷ 0xFF ∷ 0x00 ∷ 0x12 ∷ 0x13 ∷ 0x55 ∷ 0x03 ∷ 0xBB ∷ 0x01 ∷ 0x00 ∷ 0x00 ∷ []) (centre.refuses 3)
+    ∷ noReply (0xE0 ∷ 0xFF ∷ 0x00 ∷ 0x00 ∷ 0x00 ∷ 0x00 ∷ 0x03 ∷ 0xBB ∷ 0x01 ∷ 0x00 ∷ 0x00 ∷ []) (centre.refuses 5)
+    ∷ noReply (0xE0 ∷ 0xFF ∷ 0xEF ∷ 0xEF ∷ 0xEF ∷ 0xEF ∷ 0x02 ∷ 0x00 ∷ 0x00 ∷ 0x03 ∷ 0xBB ∷ 0x01 ∷ 0x00 ∷ 0x00 ∷ []) (centre.refuses 5)
+    ∷ noReply (0xE0 ∷ 0xFF ∷ 0xEF ∷ 0xEF ∷ 0xEF ∷ 0xEF ∷ 0x02 ∷ 0x00 ∷ 0x12 ∷ 0x03 ∷ 0xBB ∷ 0x01 ∷ 0x00 ∷ 0x00 ∷ []) (centre.refuses 6)
+    ∷ noReply (0xE0 ∷ 0xFF ∷ 0x00 ∷ 0x12 ∷ 0x13 ∷ 0x55 ∷ 0x03 ∷ 0xBB ∷ 0x01 ∷ 0x00 ∷ []) (centre.refuses 7)
+    ∷ noReply (0xE0 ∷ 0xFF ∷ 0x00 ∷ 0x12 ∷ 0x13 ∷ 0x55 ∷ 0x03 ∷ 0xBB ∷ 0x01 ∷ 0x00 ∷ 0x00 ∷ 0x00 ∷ []) (centre.refuses 7)
     ∷ []
 
 -- every case of the table holds
