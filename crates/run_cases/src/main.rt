@@ -1,6 +1,8 @@
 // What is only run. Without an argument: the calls at their limits, and the receiving half's table row by row.
 // `frame` frames standard input and feeds the frame back; `listen` feeds standard input to a receiving half; `station`
-// makes the calls of a station that standard input lists, and `net` the dry runs.
+// makes the calls of a station that standard input lists, `net` the dry runs, and `centre` the calls of the centre.
+mod centre;
+mod centre_limits;
 mod limits;
 mod link;
 mod net_limits;
@@ -42,6 +44,10 @@ fn main() {
         nets::make_runs();
         return;
     }
+    if m == b'c' {
+        centre::make_calls();
+        return;
+    }
     limits::frames();
     limits::events();
     station_limits::setups();
@@ -53,4 +59,13 @@ fn main() {
     net_limits::setups();
     net_limits::counts();
     net_limits::orders();
+    centre_limits::routes();
+    centre_limits::stations();
+    centre_limits::counts();
+    centre_limits::outputs();
+    centre_limits::orders();
+    centre_limits::entries();
+    centre_limits::blocks();
+    centre_limits::bodies();
+    centre_limits::headers();
 }

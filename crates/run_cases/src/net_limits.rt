@@ -7,7 +7,8 @@ use crate::station_limits;
 use net::DryRunAnswer;
 
 // Sixty-five addresses in no order, no two equal; the 64th is 55.
-const NAMES: [u8; 65] = *b"zyxwvutsrqponmlkjihgfedcbaABCDEFGHIJKLMNOPQRSTVWXYZ0123456789+-U*";
+pub(crate) const NAMES: [u8; 65] =
+    *b"zyxwvutsrqponmlkjihgfedcbaABCDEFGHIJKLMNOPQRSTVWXYZ0123456789+-U*";
 
 // The last telegram, and what is behind it; or what changed although the call was refused.
 fn show_output(answer: DryRunAnswer, out: &[u8]) {
@@ -16,7 +17,7 @@ fn show_output(answer: DryRunAnswer, out: &[u8]) {
             if n <= 1024 {
                 if 1024 <= out.len() {
                     show::text(b", last");
-                    station_limits::show_start(&out[0..n], 64);
+                    show::start(&out[0..n], 64);
                     if limits::first_other(&out[0..1024], n, 0) < 1024 {
                         show::text(b", NOT 00 behind it");
                     }
@@ -36,7 +37,7 @@ fn run(addresses: &[u8], lent: usize, telegram: &[u8], places: usize) {
     show::text(b"net of");
     show::number(addresses.len());
     show::text(b", addresses");
-    station_limits::show_start(addresses, 16);
+    show::start(addresses, 16);
     station_limits::show_lent(lent, telegram, places);
     let answer = nets::call(addresses, &mut tables, lent, telegram, &mut out, places);
     show::run_answer(answer);
@@ -83,7 +84,7 @@ fn count_case(n: usize, lent: usize) {
 }
 
 // The start of an extended telegram: its count, its first two entries, and 00s.
-fn extended(function: u8, count: u8, first: u8, second: u8) -> [u8; 1025] {
+pub(crate) fn extended(function: u8, count: u8, first: u8, second: u8) -> [u8; 1025] {
     let mut t = station_limits::request(0xEF, 0xEF);
     t[0] = function;
     t[4] = 0xEF;

@@ -36,19 +36,14 @@ pub(crate) fn call(
     )
 }
 
-// A two-byte number.
-fn word_of(high: u8, low: u8) -> u16 {
-    high as u16 * 256 + low as u16
-}
-
 // Sets the values of a table by two bytes each, the high one first, as far as there are bytes.
-fn fill(table: &mut [u16], bytes: &[u8]) {
+pub(crate) fn fill(table: &mut [u16], bytes: &[u8]) {
     let mut i: usize = 0;
     while i < table.len() {
         if bytes.len() / 2 <= i {
             return;
         }
-        table[i] = word_of(bytes[2 * i], bytes[2 * i + 1]);
+        table[i] = words::word_of(bytes[2 * i], bytes[2 * i + 1]);
         i += 1;
     }
 }

@@ -6,10 +6,12 @@ use link_receive::LinkEvent;
 use link_receive::LinkState;
 use link_receive::LinkStep;
 use link_receive::Phase;
+use mop_centre::ReplyVerdict;
 use mop_station::StationAnswer;
 use net::DryRunAnswer;
 use net::JourneyEnd;
 use refusal::Refusal;
+use refusal::WriteAnswer;
 
 pub(crate) fn text(s: &[u8]) {
     io::write_all(STDOUT_FILENO, s);
@@ -50,6 +52,16 @@ pub(crate) fn line(s: &[u8]) {
     text(b"\n");
 }
 
+// The bytes, or the first of them where there are more than so many.
+pub(crate) fn start(s: &[u8], most: usize) {
+    if s.len() <= most {
+        bytes(s);
+        return;
+    }
+    bytes(&s[0..most]);
+    text(b" ..");
+}
+
 // A two-byte number in four hex digits, after a space.
 fn word(n: u16) -> [u8; 5] {
     let high = (n / 256) as u8;
@@ -86,9 +98,14 @@ pub(crate) fn number(n: usize) {
     io::print_decimal(STDOUT_FILENO, n as u64);
 }
 
-pub(crate) fn refusal(r: Refusal) {
-    text(b" refused");
+fn refused(r: Refusal) {
+    text(b"refused");
     number(r.number() as usize);
+}
+
+pub(crate) fn refusal(r: Refusal) {
+    text(b" ");
+    refused(r);
 }
 
 fn phase(p: Phase) {
@@ -145,10 +162,7 @@ pub(crate) fn station_answer(a: StationAnswer) {
             number(n);
         }
         StationAnswer::NotMine => text(b"not mine"),
-        StationAnswer::Refused(r) => {
-            text(b"refused");
-            number(r.number() as usize);
-        }
+        StationAnswer::Refused(r) => refused(r),
     }
 }
 
@@ -173,10 +187,25 @@ pub(crate) fn run_answer(a: DryRunAnswer) {
             text(b", length");
             number(n);
         }
-        DryRunAnswer::Refused(r) => {
-            text(b"refused");
-            number(r.number() as usize);
+        DryRunAnswer::Refused(r) => refused(r),
+    }
+}
+
+pub(crate) fn write_answer(a: WriteAnswer) {
+    match a {
+        WriteAnswer::Written(n) => {
+            text(b"written");
+            number(n);
         }
+        WriteAnswer::Refused(r) => refused(r),
+    }
+}
+
+pub(crate) fn reply_verdict(v: ReplyVerdict) {
+    match v {
+        ReplyVerdict::Accepted => text(b"accepted"),
+        ReplyVerdict::NotMine => text(b"not mine"),
+        ReplyVerdict::Refused(r) => refused(r),
     }
 }
 

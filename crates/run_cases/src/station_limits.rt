@@ -6,14 +6,13 @@ use crate::station;
 use crate::station::PLACES;
 use mop_station::StationAnswer;
 
-// The bytes, or the first of them where there are more than so many.
-pub(crate) fn show_start(bytes: &[u8], most: usize) {
-    if bytes.len() <= most {
-        show::bytes(bytes);
-        return;
-    }
-    show::bytes(&bytes[0..most]);
-    show::text(b" ..");
+// The length and the start of a telegram.
+pub(crate) fn show_telegram(telegram: &[u8]) {
+    show::text(b"length");
+    show::number(telegram.len());
+    show::text(b", telegram");
+    show::start(telegram, 16);
+    show::text(b": ");
 }
 
 // The places lent, and the telegram.
@@ -22,11 +21,8 @@ pub(crate) fn show_lent(lent: usize, telegram: &[u8], places: usize) {
     show::number(lent);
     show::text(b", output");
     show::number(places);
-    show::text(b", length");
-    show::number(telegram.len());
-    show::text(b", telegram");
-    show_start(telegram, 16);
-    show::text(b": ");
+    show::text(b", ");
+    show_telegram(telegram);
 }
 
 // The place of the table that changed, if one did, and whether more did.

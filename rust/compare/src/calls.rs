@@ -48,7 +48,7 @@ impl Listed for Call {
         Some((call, rest))
     }
 
-    fn telegram(&mut self) -> &mut Vec<u8> {
+    fn bytes(&mut self) -> &mut Vec<u8> {
         &mut self.telegram
     }
 

@@ -15,6 +15,8 @@ pub enum Mode {
     Station,
     /// Make the dry runs that the input lists.
     Net,
+    /// Make the calls of the centre that the input lists.
+    Centre,
     /// Play the input; this is the other program, which does nothing else.
     Program,
 }

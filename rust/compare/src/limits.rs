@@ -1,6 +1,8 @@
-//! The calls of a station and the dry runs that the program makes at their limits.
+//! The calls of a station, the dry runs and the calls of the centre that the program makes at
+//! their limits.
 
 use crate::calls::Call;
+use crate::centre::Request;
 use crate::runs::Run;
 
 /// A request whose first 12 bytes ask for nothing.
@@ -182,4 +184,159 @@ const SEVERAL: [Fault; 12] = [
     (0xE0, 33, 0x00, 0x12, 46),
     (0xE0, 3, 0x00, 0xF1, 16),
     (0xE0, 3, 0x12, 0x00, 16),
+];
+
+/// The requests that the centre writes, to read from 955 on and to write to 300 and on.
+pub fn requests() -> Vec<Request> {
+    let request = |route: &[u8], read_count: usize, writes: usize, room: usize| Request {
+        route: route.to_vec(),
+        read_start: 955,
+        read_count,
+        write_start: 300,
+        values: vec![0xC3D4; writes],
+        room,
+    };
+    let routed = |n: usize, writes: usize, room: usize| {
+        let mut route = NAMES.to_vec();
+        route.resize(255, 1);
+        request(&route[..n], 1, writes, room)
+    };
+    let counted = |(n, read_count, writes, room): (usize, usize, usize, usize)| {
+        request(&[0x55; 2][..n], read_count, writes, room)
+    };
+
+    let mut requests = Vec::new();
+    requests.extend((0..=4).map(|n| routed(n, 1, 1024)));
+    requests.extend([30, 31, 32, 65, 255].map(|n| routed(n, 0, 1024)));
+    requests.extend([0, 1, 0xEF, 240, 241, 255].map(|station| request(&[station], 1, 1, 1024)));
+    requests.extend(ROUTES.map(|route| request(&route, 1, 1, 1024)));
+    requests.extend(READ_AND_WRITE.map(|(reads, writes)| counted((1, reads, writes, 1024))));
+    for (n, writes, room) in OUTPUTS {
+        requests.push(routed(n, writes, room));
+    }
+    requests.extend(ORDERS.map(counted));
+    requests
+}
+
+/// Four stations, most of them not a route.
+const ROUTES: [[u8; 4]; 9] = [
+    [0x12, 0x13, 0xF0, 0x55],
+    [0x12, 0x13, 0x55, 0xF1],
+    [0xF1, 0x12, 0x13, 0x55],
+    [0x12, 0x13, 0x55, 0x00],
+    [0x00, 0x12, 0x13, 0x55],
+    [0x12, 0x12, 0x13, 0x55],
+    [0x12, 0x13, 0x55, 0x55],
+    [0x55, 0x12, 0x13, 0x55],
+    [0xEF, 0xEF, 0xEF, 0xEF],
+];
+
+/// Read counts, and numbers of values.
+const READ_AND_WRITE: [(usize, usize); 9] = [
+    (0, 0),
+    (255, 0),
+    (256, 0),
+    (65536, 0),
+    (usize::MAX, 0),
+    (0, 255),
+    (0, 256),
+    (255, 255),
+    (256, 256),
+];
+
+/// Stations, values, and the places of the output.
+const OUTPUTS: [(usize, usize, usize); 10] = [
+    (1, 0, 0),
+    (1, 0, 11),
+    (1, 0, 12),
+    (1, 0, 13),
+    (3, 1, 13),
+    (3, 1, 14),
+    (4, 0, 17),
+    (4, 0, 18),
+    (31, 255, 554),
+    (31, 255, 555),
+];
+
+/// Several faults together: how often the route names its station, the read count, the number of
+/// values, and the places of the output.
+const ORDERS: [(usize, usize, usize, usize); 8] = [
+    (2, 256, 256, 0),
+    (2, 256, 0, 1024),
+    (2, 0, 256, 1024),
+    (2, 0, 0, 0),
+    (0, 256, 0, 0),
+    (1, 256, 0, 0),
+    (1, 0, 256, 0),
+    (1, 0, 0, 0),
+];
+
+/// The telegrams that the centre reads as replies.
+pub fn replies() -> Vec<Vec<u8>> {
+    let body = |count: u8| [0x03, 0xBB, count, 0xC3, 0xD4];
+    let standard = |function: u8, first: u8, second: u8, count: u8, n: usize| {
+        let mut bytes = request(first, second);
+        bytes[0] = function;
+        bytes[6..11].copy_from_slice(&body(count));
+        bytes[..n].to_vec()
+    };
+    let home = |(count, n): (u8, usize)| standard(0xE0, 0x00, 0x55, count, n);
+    let marked = |mark: u8, count: u8, first: u8, second: u8, n: usize| {
+        let mut bytes = vec![0; 1025];
+        let front = [0xE0, 0xFF, mark, 0xEF, 0xEF, 0xEF, count, first, second];
+        bytes[..9].copy_from_slice(&front);
+        bytes[..n].to_vec()
+    };
+    let full = |(stations, count): (usize, u8)| {
+        let front = [0xE0, 0xFF, 0x00, 0xEF, 0xEF, 0xEF, stations as u8 + 1, 0x00];
+        let mut bytes = [&front, &NAMES[..stations], &body(count)].concat();
+        bytes.resize(11 + stations + 2 * usize::from(count), 0);
+        bytes
+    };
+
+    let mut replies = vec![home((1, 11))];
+    replies.extend((0..=4).map(|stations| full((stations, 1))));
+    replies.extend([(31, 1), (31, 255), (32, 1)].map(full));
+    replies.push(marked(0x00, 255, 0x00, 0x55, 265));
+    replies.extend([0xF0, 0xF1, 0x00].map(|second| standard(0xE0, 0x00, second, 1, 11)));
+    for (mark, count, first, second, n) in MARKS {
+        replies.push(marked(mark, count, first, second, n));
+    }
+    replies.extend([11, 10, 6].map(|n| standard(0xE0, 0x55, 0x00, 1, n)));
+    replies.extend([12, 9].map(|n| marked(0xEF, 2, 0x55, 0x00, n)));
+    replies.extend(BODIES.map(home));
+    replies.extend([9, 11, 12, 13].map(|n| marked(0x00, 2, 0x00, 0x55, n)));
+    replies.extend([(0, 0), (0, 5)].map(home));
+    replies.extend([6, 8].map(|n| marked(0x00, 2, 0x00, 0x55, n)));
+    replies.extend([5, 11].map(|n| standard(0x60, 0x55, 0x00, 1, n)));
+    replies.extend([0x60, 0xE1].map(|function| standard(function, 0x00, 0x55, 1, 11)));
+    replies.extend([(1, 1024), (1, 1025)].map(home));
+    replies.push(standard(0x60, 0x55, 0x00, 1, 1025));
+    replies
+}
+
+/// Blocks that name nobody, and wrong marks: the mark's first byte, the count of entries, the first
+/// two of them, and the telegram's length.
+const MARKS: [(u8, u8, u8, u8, usize); 7] = [
+    (0x00, 2, 0x00, 0x00, 12),
+    (0xEF, 2, 0x00, 0x00, 12),
+    (0x00, 32, 0x00, 0x00, 42),
+    (0xEF, 32, 0x00, 0x00, 42),
+    (0xEF, 2, 0x00, 0x55, 12),
+    (0x00, 2, 0x55, 0x00, 12),
+    (0xEF, 2, 0x00, 0x55, 9),
+];
+
+/// The count of a body, and the telegram's length.
+const BODIES: [(u8, usize); 10] = [
+    (0, 6),
+    (0, 8),
+    (0, 9),
+    (0, 10),
+    (1, 9),
+    (1, 10),
+    (1, 12),
+    (255, 518),
+    (255, 519),
+    (255, 520),
 ];

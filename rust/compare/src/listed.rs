@@ -10,9 +10,10 @@ pub trait Listed: Clone {
     fn encode(&self) -> Vec<u8>;
     /// The first item of a list and what follows it; nothing where the list has a fault there.
     fn decode(bytes: &[u8]) -> Option<(Self, &[u8])>;
-    fn telegram(&mut self) -> &mut Vec<u8>;
-    /// The item without one of its stations, if it has so many.
-    fn without(&self, station: usize) -> Option<Self>;
+    /// The telegram, or the route of one that is to be written.
+    fn bytes(&mut self) -> &mut Vec<u8>;
+    /// The item without one of its stations or values, if it has so many.
+    fn without(&self, part: usize) -> Option<Self>;
 }
 
 /// The two bytes of a number, the high one first.

@@ -4,6 +4,8 @@
 #![forbid(unsafe_code)]
 
 mod calls;
+mod centre;
+mod centre_lists;
 mod inputs;
 mod limits;
 mod listed;
@@ -47,12 +49,14 @@ fn main() -> Result<ExitCode, Box<dyn Error>> {
     let stations = lists::lists(&mut random);
     let nets = nets::lists(&mut random);
     let played = program::cases(&mut random);
+    let centre = centre_lists::lists(&mut random);
     let right = compare(run_cases, "limits", &limits, &mut tally)?
         && compare(run_cases, "framing", &framing, &mut tally)?
         && compare(run_cases, "listening", &listening, &mut tally)?
         && compare(run_cases, "stations", &stations, &mut tally)?
         && compare(run_cases, "nets", &nets, &mut tally)?
         && compare(dry_run, "program", &played, &mut tally)?
+        && compare(run_cases, "centre", &centre, &mut tally)?
         && all_reached(&tally);
     Ok(if right {
         ExitCode::SUCCESS
@@ -107,6 +111,7 @@ fn report(program: &str, case: &Case, right: &str, wrong: &[u8]) {
     let smallest = match case.mode {
         Mode::Station => shrink_list::<Call>(&case.input, &mut tries, fails),
         Mode::Net => shrink_list::<Run>(&case.input, &mut tries, fails),
+        Mode::Centre => shrink_list::<centre::Call>(&case.input, &mut tries, fails),
         _ => shrink(&case.input, &mut tries, fails),
     };
     println!("smallest failing input found, {} bytes:", smallest.len());
@@ -116,7 +121,8 @@ fn report(program: &str, case: &Case, right: &str, wrong: &[u8]) {
 /// Prints how often each kind of answer was reached.
 fn all_reached(tally: &Tally) -> bool {
     println!(
-        "answers, to data framed, to an event, a station's call, a dry run or a telegram played: {}",
+        "answers, to data framed, an event, a call of a station or of the centre, a dry run or a \
+        telegram played: {}",
         tally.answers()
     );
     for (kind, count) in &tally.kinds {

@@ -97,7 +97,7 @@ impl Random {
     }
 
     /// So many different addresses, in any order and without the given ones.
-    fn others(&mut self, count: usize, without: &[u8]) -> Vec<u8> {
+    pub fn others(&mut self, count: usize, without: &[u8]) -> Vec<u8> {
         let mut addresses: Vec<u8> = (1..=240).filter(|a| !without.contains(a)).collect();
         self.shuffle(&mut addresses);
         addresses.truncate(count);
@@ -105,7 +105,7 @@ impl Random {
     }
 
     /// Values for registers: those of new stations, one value, or any.
-    fn tables(&mut self, count: usize) -> Vec<u16> {
+    pub fn tables(&mut self, count: usize) -> Vec<u16> {
         let one = self.word();
         match self.below(4) {
             0 => factory().into_iter().cycle().take(count).collect(),

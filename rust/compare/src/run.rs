@@ -19,6 +19,7 @@ pub fn run(program: &str, case: &Case) -> io::Result<Vec<u8>> {
             Mode::Listen => Some("listen"),
             Mode::Station => Some("station"),
             Mode::Net => Some("net"),
+            Mode::Centre => Some("centre"),
         })
         .stdin(Stdio::piped())
         .stdout(Stdio::piped())
@@ -74,7 +75,8 @@ pub fn shrink<T: Clone>(
     best
 }
 
-/// Drops whole items of a list, then bytes of the telegrams that are left, then stations.
+/// Drops whole items of a list, then bytes of the telegrams and routes that are left, then
+/// stations and values.
 pub fn shrink_list<T: Listed>(
     input: &[u8],
     tries: &mut u32,
@@ -92,21 +94,21 @@ pub fn shrink_list<T: Listed>(
     };
     for i in 0..items.len() {
         let mut item = items[i].clone();
-        let telegram = item.telegram().clone();
-        *item.telegram() = shrink(&telegram, tries, |bytes| {
+        let bytes = item.bytes().clone();
+        *item.bytes() = shrink(&bytes, tries, |bytes| {
             let mut item = items[i].clone();
-            *item.telegram() = bytes.to_vec();
+            *item.bytes() = bytes.to_vec();
             fails(&encode(&with(&items, i, item)))
         });
         items = with(&items, i, item);
-        let mut station = 0;
-        while let Some(item) = items[i].without(station).filter(|_| *tries > 0) {
+        let mut part = 0;
+        while let Some(item) = items[i].without(part).filter(|_| *tries > 0) {
             *tries -= 1;
             let fewer = with(&items, i, item);
             if fails(&encode(&fewer)) {
                 items = fewer;
             } else {
-                station += 1;
+                part += 1;
             }
         }
     }
@@ -117,6 +119,7 @@ pub fn shrink_list<T: Listed>(
 mod tests {
     use super::*;
     use crate::calls::Call;
+    use crate::centre::{self, Request};
     use crate::runs::Run;
 
     #[test]
@@ -165,5 +168,41 @@ mod tests {
         };
         let shrunk = shrink_list::<Run>(&encode(&runs), &mut 400, fails);
         assert_eq!(decode(&shrunk), (vec![run(&[4], &[6])], true));
+    }
+
+    #[test]
+    fn shrinks_calls_of_the_centre() {
+        let request = |route: &[u8], values: &[u16]| {
+            centre::Call::Request(Request {
+                route: route.to_vec(),
+                read_start: 1,
+                read_count: 2,
+                write_start: 3,
+                values: values.to_vec(),
+                room: 9,
+            })
+        };
+        let reply = |telegram: &[u8]| centre::Call::Reply(telegram.to_vec());
+        let calls = [
+            reply(&[1, 2, 3]),
+            request(&[5, 6, 7], &[8, 9, 10]),
+            request(&[6], &[8]),
+            reply(&[4, 2]),
+        ];
+        let fails = |list: &[u8]| {
+            let (calls, good) = decode::<centre::Call>(list);
+            let written = |call: &centre::Call| match call {
+                centre::Call::Request(r) => r.route.contains(&7) && r.values.contains(&9),
+                centre::Call::Reply(_) => false,
+            };
+            let read = |call: &centre::Call| match call {
+                centre::Call::Request(_) => false,
+                centre::Call::Reply(telegram) => telegram.contains(&4),
+            };
+            good && calls.iter().any(written) && calls.iter().any(read)
+        };
+        let smallest = vec![request(&[7], &[9]), reply(&[4])];
+        let shrunk = shrink_list::<centre::Call>(&encode(&calls), &mut 400, fails);
+        assert_eq!(decode(&shrunk), (smallest, true));
     }
 }

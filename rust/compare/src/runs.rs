@@ -63,7 +63,7 @@ impl Listed for Run {
         Some((run, rest))
     }
 
-    fn telegram(&mut self) -> &mut Vec<u8> {
+    fn bytes(&mut self) -> &mut Vec<u8> {
         &mut self.telegram
     }
 

@@ -1,11 +1,13 @@
 //! The texts that the programs must print, by the reference.
 
 use crate::calls::{Bank, Call};
+use crate::centre::{self, Request};
 use crate::inputs::{Case, Mode};
 use crate::limits;
-use crate::listed::{decode, BEFORE};
+use crate::listed::{decode, BEFORE, MOST};
 use crate::runs::Run;
 use crate::telegrams::is_extended;
+use reference::centre::{read_reply, Reply, Verdict, MAX_ROUTE};
 use reference::header::{is_address, MAX_TELEGRAM};
 use reference::link::{frame, receive, Answer, Event, Phase, State};
 use reference::link::{DLE, MAX_DATA, NAK, STX};
@@ -16,7 +18,7 @@ use std::collections::{BTreeMap, BTreeSet};
 use std::fmt::Write;
 
 /// The kinds of answer that a run must reach.
-pub const KINDS: [&str; 75] = [
+pub const KINDS: [&str; 115] = [
     "frame written",
     "refused 11",
     "refused 12",
@@ -92,6 +94,46 @@ pub const KINDS: [&str; 75] = [
     "program: refused 5",
     "program: refused 6",
     "program: refused 12",
+    "centre: request written, standard",
+    "centre: request written, extended",
+    "centre: request refused 5, no station",
+    "centre: request refused 5, over 31 stations",
+    "centre: request refused 5, a station out of range",
+    "centre: request refused 5, a station twice",
+    "centre: request refused 11, standard",
+    "centre: request refused 11, extended",
+    "centre: request refused 12, read count",
+    "centre: request refused 12, values",
+    "centre: reply accepted, standard",
+    "centre: reply accepted, standard, no values",
+    "centre: reply accepted, 2 entries",
+    "centre: reply accepted, 2 entries, no values",
+    "centre: reply accepted, 3 entries",
+    "centre: reply accepted, 3 entries, no values",
+    "centre: reply accepted, 4 entries",
+    "centre: reply accepted, 4 entries, no values",
+    "centre: reply accepted, 5 to 32 entries",
+    "centre: reply accepted, 5 to 32 entries, no values",
+    "centre: reply not mine, standard",
+    "centre: reply not mine, extended",
+    "centre: reply refused 2, under 6 bytes",
+    "centre: reply refused 2, under 7 bytes",
+    "centre: reply refused 2, entries missing",
+    "centre: reply refused 3, request",
+    "centre: reply refused 3, another function",
+    "centre: reply refused 4, under 2",
+    "centre: reply refused 4, over 32",
+    "centre: reply refused 5, standard",
+    "centre: reply refused 5, standard, nobody",
+    "centre: reply refused 5, extended",
+    "centre: reply refused 5, extended, nobody, mark 00",
+    "centre: reply refused 5, extended, nobody, mark EF",
+    "centre: reply refused 6, mark 00",
+    "centre: reply refused 6, mark EF",
+    "centre: reply refused 7, under 3 bytes",
+    "centre: reply refused 7, too short",
+    "centre: reply refused 7, too long",
+    "centre: reply refused 12",
 ];
 
 /// What a run must reach.
@@ -162,6 +204,7 @@ pub fn expected(case: &Case) -> Expected {
         Mode::Listen => expected.feed(&case.input),
         Mode::Station => expected.calls(&case.input),
         Mode::Net => expected.runs(&case.input),
+        Mode::Centre => expected.centre(&case.input),
         Mode::Program => expected.program(&case.input),
     }
     expected
@@ -245,6 +288,14 @@ impl Expected {
         }
         for run in limits::runs() {
             self.run_limit(&run);
+        }
+        for request in limits::requests() {
+            self.request_limit(&request);
+        }
+        for telegram in limits::replies() {
+            self.text += "centre, ";
+            self.text += &telegram_text(&telegram);
+            self.reply(&telegram, 16);
         }
     }
 
@@ -392,6 +443,59 @@ impl Expected {
         self.text += "\n";
     }
 
+    /// Makes the calls of the centre that a list has.
+    fn centre(&mut self, input: &[u8]) {
+        let (calls, good) = decode::<centre::Call>(input);
+        for call in calls {
+            match call {
+                centre::Call::Request(request) => self.request(&request),
+                centre::Call::Reply(telegram) => self.reply(&telegram, MOST),
+            }
+        }
+        if !good {
+            self.text += "bad list\n";
+        }
+    }
+
+    /// Writes a request, and shows the whole output.
+    fn request(&mut self, request: &Request) {
+        let (answer, out) = request.write();
+        self.count(request_kind(request, answer));
+        self.text += &request_text(answer);
+        self.line("; output", &out);
+    }
+
+    fn request_limit(&mut self, request: &Request) {
+        let (answer, out) = request.write();
+        self.count(request_kind(request, answer));
+        let route = &request.route;
+        self.text += &format!("route of {}, stations{}", route.len(), start(route, 16));
+        let (count, from) = (request.read_count, request.read_start);
+        self.text += &format!(", read {count} from {from}");
+        let (count, from) = (request.values.len(), request.write_start);
+        self.text += &format!(", write {count} from {from}, output {}: ", request.room);
+        self.text += &request_text(answer);
+        if let Ok(length) = answer {
+            self.text += &format!(", telegram{}", start(&out[..length], 48));
+        }
+        self.text += &changes_text(&out, answer.unwrap_or(0));
+        self.text += "\n";
+    }
+
+    /// Reads a reply, and shows what it says, with so many bytes of its values.
+    fn reply(&mut self, telegram: &[u8], most: usize) {
+        let reply = read_reply(telegram);
+        self.count(reply_kind(telegram, &reply));
+        self.text += &match reply.verdict {
+            Verdict::Accepted => "accepted".into(),
+            Verdict::NotMine => "not mine".into(),
+            Verdict::Refused(number) => format!("refused {number}"),
+        };
+        self.text += &format!("; route{}", hex(&reply.route));
+        self.text += &format!("; start {:04X}; count {}", reply.start, reply.count);
+        self.text += &format!("; values{}\n", start(reply.values, most));
+    }
+
     /// The program's text for a telegram.
     fn program(&mut self, telegram: &[u8]) {
         self.text = report::program(telegram);
@@ -498,10 +602,23 @@ fn run_text(answer: Result<DryRun, u8>) -> String {
     }
 }
 
+fn request_text(answer: Result<usize, u8>) -> String {
+    match answer {
+        Ok(length) => format!("written {length}"),
+        Err(number) => format!("refused {number}"),
+    }
+}
+
+/// The length and the start of a telegram at a limit.
+fn telegram_text(telegram: &[u8]) -> String {
+    let (length, start) = (telegram.len(), start(telegram, 16));
+    format!("length {length}, telegram{start}: ")
+}
+
 /// What is lent at a limit, and the telegram.
 fn lent_text(places: usize, telegram: &[u8], room: usize) -> String {
-    let (length, start) = (telegram.len(), start(telegram, 16));
-    format!(", table {places}, output {room}, length {length}, telegram{start}: ")
+    let telegram = telegram_text(telegram);
+    format!(", table {places}, output {room}, {telegram}")
 }
 
 /// The place of a table that changed, if one did.
@@ -640,6 +757,90 @@ fn run_kind(run: &Run, answer: Result<DryRun, u8>) -> &'static str {
     }
 }
 
+/// The kind of the answer to a request that is to be written.
+fn request_kind(request: &Request, answer: Result<usize, u8>) -> &'static str {
+    let route = &request.route;
+    let extended = route.len() > 3;
+    match answer {
+        Ok(_) if extended => "centre: request written, extended",
+        Ok(_) => "centre: request written, standard",
+        Err(5) => {
+            if route.is_empty() {
+                "centre: request refused 5, no station"
+            } else if route.len() > MAX_ROUTE {
+                "centre: request refused 5, over 31 stations"
+            } else if !route.iter().all(|&station| is_address(station)) {
+                "centre: request refused 5, a station out of range"
+            } else {
+                "centre: request refused 5, a station twice"
+            }
+        }
+        Err(11) if extended => "centre: request refused 11, extended",
+        Err(11) => "centre: request refused 11, standard",
+        Err(12) if request.read_count > 255 => "centre: request refused 12, read count",
+        Err(12) => "centre: request refused 12, values",
+        Err(_) => "another answer",
+    }
+}
+
+/// The kind of the answer to a telegram that the centre reads.
+fn reply_kind(telegram: &[u8], reply: &Reply) -> &'static str {
+    let entries = match is_extended(telegram) {
+        true => telegram.get(6).map(|&count| usize::from(count)),
+        false => None,
+    };
+    let block = match entries {
+        Some(n) => telegram.get(7..7 + n),
+        None => telegram.get(2..6),
+    };
+    let nobody = block.is_some_and(|block| block.iter().all(|&entry| entry == 0));
+    match reply.verdict {
+        Verdict::Accepted => match (entries, reply.values.is_empty()) {
+            (None, false) => "centre: reply accepted, standard",
+            (None, true) => "centre: reply accepted, standard, no values",
+            (Some(2), false) => "centre: reply accepted, 2 entries",
+            (Some(2), true) => "centre: reply accepted, 2 entries, no values",
+            (Some(3), false) => "centre: reply accepted, 3 entries",
+            (Some(3), true) => "centre: reply accepted, 3 entries, no values",
+            (Some(4), false) => "centre: reply accepted, 4 entries",
+            (Some(4), true) => "centre: reply accepted, 4 entries, no values",
+            (Some(_), false) => "centre: reply accepted, 5 to 32 entries",
+            (Some(_), true) => "centre: reply accepted, 5 to 32 entries, no values",
+        },
+        Verdict::NotMine => match entries {
+            None => "centre: reply not mine, standard",
+            Some(_) => "centre: reply not mine, extended",
+        },
+        Verdict::Refused(number) => match number {
+            2 if telegram.len() < 6 => "centre: reply refused 2, under 6 bytes",
+            2 if telegram.len() < 7 => "centre: reply refused 2, under 7 bytes",
+            2 => "centre: reply refused 2, entries missing",
+            3 if telegram[0] == 0x60 => "centre: reply refused 3, request",
+            3 => "centre: reply refused 3, another function",
+            4 if entries < Some(2) => "centre: reply refused 4, under 2",
+            4 => "centre: reply refused 4, over 32",
+            5 => match (entries, nobody, telegram[2]) {
+                (None, false, _) => "centre: reply refused 5, standard",
+                (None, true, _) => "centre: reply refused 5, standard, nobody",
+                (Some(_), false, _) => "centre: reply refused 5, extended",
+                (Some(_), true, 0) => "centre: reply refused 5, extended, nobody, mark 00",
+                (Some(_), true, _) => "centre: reply refused 5, extended, nobody, mark EF",
+            },
+            6 if telegram[2] == 0 => "centre: reply refused 6, mark 00",
+            6 => "centre: reply refused 6, mark EF",
+            7 => match &telegram[entries.map_or(6, |n| 7 + n)..] {
+                [_, _, count, values @ ..] if values.len() < 2 * usize::from(*count) => {
+                    "centre: reply refused 7, too short"
+                }
+                [_, _, _, ..] => "centre: reply refused 7, too long",
+                _ => "centre: reply refused 7, under 3 bytes",
+            },
+            12 => "centre: reply refused 12",
+            _ => "another answer",
+        },
+    }
+}
+
 /// The kind of what the program prints, by its last line.
 fn program_kind(text: &str) -> &'static str {
     let words: Vec<&str> = text.lines().last().unwrap_or("").split(' ').collect();
@@ -751,5 +952,49 @@ mod tests {
         lines += &format!("refused 11; tables{}; output EE EE\n", words(&[7; 18]));
         lines += &format!("refused 2; tables; output{}\n", " EE".repeat(1024));
         assert_eq!(text(Mode::Net, &list), lines);
+    }
+
+    #[test]
+    fn centre() {
+        let request = |route: &[u8], values: &[u16], room| {
+            centre::Call::Request(Request {
+                route: route.to_vec(),
+                read_start: 955,
+                read_count: 1,
+                write_start: 300,
+                values: values.to_vec(),
+                room,
+            })
+        };
+        let reply = |telegram: &[u8]| centre::Call::Reply(telegram.to_vec());
+        let mut list = encode(&[
+            request(&[0x12, 0x13, 0x55], &[1], 16),
+            request(&[0x12, 0x13, 0x55], &[1], 13),
+            request(&[], &[], 0),
+            reply(&[
+                0xE0, 0xFF, 0x00, 0x12, 0x13, 0x55, 0x03, 0xBB, 0x02, 0x00, 0x07, 0xAB, 0xCD,
+            ]),
+            reply(&[0xE0, 0xFF, 0x00, 0x12, 0x55, 0x00, 0x03, 0xBB, 0x00]),
+            reply(&[0xE0, 0xFF, 0x12, 0x13, 0x55, 0x00]),
+            reply(&[]),
+        ]);
+        let rest = |unused: usize| " 00".repeat(unused);
+        let none = format!("; route{}; start 0000; count 0; values\n", rest(31));
+        let mut lines = "written 14; output 60 FF 12 13 55 00 03 BB 01 01 2C 01 00 01 EE EE\n\
+            refused 11; output EE EE EE EE EE EE EE EE EE EE EE EE EE\n\
+            refused 5; output\n"
+            .to_owned();
+        lines += &format!(
+            "accepted; route 12 13 55{}; start 03BB; count 2; values 00 07 AB CD\n",
+            rest(28)
+        );
+        lines += &format!(
+            "accepted; route 12 55{}; start 03BB; count 0; values\n",
+            rest(29)
+        );
+        lines += &format!("not mine{none}refused 2{none}");
+        assert_eq!(text(Mode::Centre, &list), lines);
+        list.push(2);
+        assert_eq!(text(Mode::Centre, &list), lines + "bad list\n");
     }
 }
