@@ -139,7 +139,7 @@ worked-cases =
     also tells-by _ _ refl refl _ refl
     also travels-by _ _ refl refl _ _ _ refl refl refl refl
     also outright-by _ _ _ refl
-    also refl also refl also refl also refl also refl also refl
+    also refl also refl also refl also refl also refl also refl also refl also refl also refl also refl
     also asked-by _ _ _ _ _ _ _ refl refl refl refl
     also refl also refl also refl also refl also refl
     also refl
