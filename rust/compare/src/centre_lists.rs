@@ -2,7 +2,7 @@
 
 use crate::centre::{Call, Request, PARTS};
 use crate::inputs::{Case, Mode, Random};
-use crate::listed::{encode, Listed, MOST};
+use crate::listed::{self, case, encode, Listed, MOST};
 use crate::telegrams::{all_runs, forms, mark_of, marked, telegram, writable_runs};
 use crate::telegrams::{REPLY, REQUEST};
 use reference::centre::MAX_ROUTE;
@@ -35,20 +35,9 @@ pub fn lists(random: &mut Random) -> Vec<Case> {
         ("exchanges", exchanges(random)),
         ("any telegrams", any_telegrams(random)),
     ] {
-        for calls in calls.chunks(LIST) {
-            cases.push(case(name, encode(calls), usize::MAX));
-        }
+        cases.extend(listed::cases(Mode::Centre, name, &calls, LIST));
     }
     cases
-}
-
-fn case(name: &str, input: Vec<u8>, piece: usize) -> Case {
-    Case {
-        name: format!("{name}, {} bytes", input.len()),
-        mode: Mode::Centre,
-        input,
-        piece,
-    }
 }
 
 /// Lists that end early or break a limit, and one that comes in pieces.
@@ -66,20 +55,25 @@ fn ends(random: &mut Random) -> Vec<Case> {
         Call::Request(small),
     ];
     let list = encode(&calls);
-    let mut cases = vec![case("a list in pieces", list.clone(), 97)];
+    let mut cases = vec![case(Mode::Centre, "a list in pieces", list.clone(), 97)];
     let mut from = 0;
     for (call, over) in calls.iter().zip(OVER) {
         let length = call.encode().len();
         for cut in [0, 1, 2, 3, 4, 18, 19, 20, 21, length - 1] {
             if cut < length {
-                cases.push(case("a cut list", list[..from + cut].to_vec(), usize::MAX));
+                cases.push(case(
+                    Mode::Centre,
+                    "a cut list",
+                    list[..from + cut].to_vec(),
+                    usize::MAX,
+                ));
             }
         }
         for &(place, value) in over {
             let mut list = list.clone();
             list[from + place] = value;
             list.resize(9_000, 0);
-            cases.push(case("a list over a limit", list, usize::MAX));
+            cases.push(case(Mode::Centre, "a list over a limit", list, usize::MAX));
         }
         from += length;
     }

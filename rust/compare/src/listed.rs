@@ -1,5 +1,7 @@
 //! Lists of what the program is to do, as it reads them.
 
+use crate::inputs::{Case, Mode};
+
 /// Most places of an output, and most bytes of a telegram, in a list.
 pub const MOST: usize = 1100;
 /// What an output holds before a call.
@@ -42,4 +44,22 @@ pub fn decode<T: Listed>(mut bytes: &[u8]) -> (Vec<T>, bool) {
         bytes = rest;
     }
     (items, true)
+}
+
+/// A list, whole or not, as the input of one run.
+pub fn case(mode: Mode, name: &str, input: Vec<u8>, piece: usize) -> Case {
+    Case {
+        name: format!("{name}, {} bytes", input.len()),
+        mode,
+        input,
+        piece,
+    }
+}
+
+/// All items, in lists of at most so many.
+pub fn cases<T: Listed>(mode: Mode, name: &str, items: &[T], most: usize) -> Vec<Case> {
+    let lists = items.chunks(most);
+    lists
+        .map(|items| case(mode, name, encode(items), usize::MAX))
+        .collect()
 }

@@ -2,7 +2,7 @@
 
 use crate::calls::{Bank, Call, TABLE};
 use crate::inputs::{Case, Mode, Random};
-use crate::listed::{encode, MOST};
+use crate::listed::{self, case, encode, MOST};
 use crate::telegrams::{all_runs, body, faulty_bodies, first_entry, forms, mark_of, marked};
 use crate::telegrams::{row, telegram, writable_runs, FUNCTIONS, REPLY, REQUEST};
 use reference::registers::{COUNT, ROWS};
@@ -34,20 +34,9 @@ pub fn lists(random: &mut Random) -> Vec<Case> {
         ("journeys", journeys(random)),
         ("anything", anything(random)),
     ] {
-        for calls in calls.chunks(LIST) {
-            cases.push(case(name, encode(calls), usize::MAX));
-        }
+        cases.extend(listed::cases(Mode::Station, name, &calls, LIST));
     }
     cases
-}
-
-fn case(name: &str, input: Vec<u8>, piece: usize) -> Case {
-    Case {
-        name: format!("{name}, {} bytes", input.len()),
-        mode: Mode::Station,
-        input,
-        piece,
-    }
 }
 
 /// Lists that end early or break a limit, and one that comes in pieces.
@@ -58,16 +47,21 @@ fn ends() -> Vec<Case> {
         ..call(vec![0; MOST])
     };
     let list = encode(&[idle.clone(), most, idle]);
-    let mut cases = vec![case("a list in pieces", list.clone(), 97)];
+    let mut cases = vec![case(Mode::Station, "a list in pieces", list.clone(), 97)];
     for length in [0, 1, 5, 6, 17, 18, 19, 23, 24, 1123, 1124, 1141] {
-        cases.push(case("a cut list", list[..length].to_vec(), usize::MAX));
+        cases.push(case(
+            Mode::Station,
+            "a cut list",
+            list[..length].to_vec(),
+            usize::MAX,
+        ));
     }
     // The second call has the greatest numbers, in the bytes from 18 on.
     for (place, value) in [(1, 21), (1, 255), (3, 0x4D), (2, 5), (5, 0x4D), (4, 5)] {
         let mut list = list.clone();
         list[18 + place] = value;
         list.resize(3_000, 0);
-        cases.push(case("a list over a limit", list, usize::MAX));
+        cases.push(case(Mode::Station, "a list over a limit", list, usize::MAX));
     }
     cases
 }

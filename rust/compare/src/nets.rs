@@ -1,7 +1,7 @@
 //! Lists of dry runs, made from a seed.
 
 use crate::inputs::{Case, Mode, Random};
-use crate::listed::{encode, MOST};
+use crate::listed::{self, case, encode, MOST};
 use crate::runs::{Run, PLACES, STATIONS};
 use crate::telegrams::{body, FUNCTIONS, REPLY, REQUEST};
 use crate::telegrams::{faulty_bodies, forms, mark_of, marked, telegram, writable_runs};
@@ -29,20 +29,9 @@ pub fn lists(random: &mut Random) -> Vec<Case> {
         ("faults together", faults(random)),
         ("anything", anything(random)),
     ] {
-        for runs in runs.chunks(LIST) {
-            cases.push(case(name, encode(runs), usize::MAX));
-        }
+        cases.extend(listed::cases(Mode::Net, name, &runs, LIST));
     }
     cases
-}
-
-fn case(name: &str, input: Vec<u8>, piece: usize) -> Case {
-    Case {
-        name: format!("{name}, {} bytes", input.len()),
-        mode: Mode::Net,
-        input,
-        piece,
-    }
 }
 
 /// Lists that end early or break a limit, and one that comes in pieces.
@@ -60,15 +49,20 @@ fn ends(random: &mut Random) -> Vec<Case> {
         room: MOST,
     };
     let list = encode(&[idle.clone(), most, idle]);
-    let mut cases = vec![case("a list in pieces", list.clone(), 997)];
+    let mut cases = vec![case(Mode::Net, "a list in pieces", list.clone(), 997)];
     for length in CUTS {
-        cases.push(case("a cut list", list[..length].to_vec(), usize::MAX));
+        cases.push(case(
+            Mode::Net,
+            "a cut list",
+            list[..length].to_vec(),
+            usize::MAX,
+        ));
     }
     for (place, value) in OVER {
         let mut list = list.clone();
         list[FIRST + place] = value;
         list.resize(9_000, 0);
-        cases.push(case("a list over a limit", list, usize::MAX));
+        cases.push(case(Mode::Net, "a list over a limit", list, usize::MAX));
     }
     cases
 }
