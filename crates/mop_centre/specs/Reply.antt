@@ -63,7 +63,7 @@ pub data Place : Type 0 where
   at : ℕ → Place
   anywhere : Place
 
--- what reading a reply gives: what is told of it, and the stretch that holds the values, its bytes and where it begins
+-- what reading a reply gives: what is told of it, and the stretch with its values: their bytes, and where it begins
 pub record ReplyReading : Type 0 where
   pub answer : Answer
   pub values : List ℕ

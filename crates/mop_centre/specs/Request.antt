@@ -22,7 +22,8 @@ maxRoute = 31
 unfoldable pub goodRoute : List ℕ → Bool
 goodRoute route = leb 1 (length route) && leb (length route) maxRoute && distinctAddresses route
 
--- up to three stations make a standard block, filled with 00; more make an extended one, with one 00 at the end
+-- three stations and fewer have room in a standard block, and 00s stand behind them; for more the header is extended, and a single
+-- 00 stands behind them
 unfoldable pub requestHead : List ℕ → Head
 requestHead route =
     pick (leb (length route) 3)

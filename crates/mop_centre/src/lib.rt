@@ -246,8 +246,8 @@ pub fn read_reply(telegram: &[u8]) -> ReplyRead
     }
 }
 
-// The stretch of the telegram that holds the values of a reply, two bytes for each register that was read, the high one first.
-// It is empty unless read_reply accepts the telegram.
+// The values of a reply, two bytes for each register that was read, the high one first. They are a part of the telegram itself,
+// and an empty one unless read_reply accepts the telegram.
 pub fn read_reply_values(telegram: &[u8]) -> &[u8]
     ensures { λ r. ⌜ now r ≡ replyReading (now (telegram .entry)) .values ⌝ }
     ensures { λ r. ⌜ Begins (telegram .entry) r (replyReading (now (telegram .entry)) .begins) ⌝ }

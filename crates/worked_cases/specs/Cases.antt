@@ -1,6 +1,6 @@
 -- The worked cases, as one table under one statement.
 -- Assumes nothing.
-use Prim.Native.Nat.{ℕ, _-_}
+use Prim.Native.Nat.{ℕ, zero, suc, _-_}
 use Prim.Native.String.{String}
 use mathlib.Core.Path.{_≡_}
 use mathlib.Core.Bool.{true}
@@ -19,7 +19,7 @@ use Rattle.mop_header.specs.declared.Reader.the-variants.{Station}
 use Rattle.mop_station.specs.Body.{accepts, judgedRuns, judgedBody}
 use Rattle.mop_station.specs.Station.{sent, refuses, leaving, handling}
 use Rattle.mop_centre.specs.Request.{requesting}
-use Rattle.mop_centre.specs.Reply.{Receipt, accepted, told, routePlaces, unread, replyReading}
+use Rattle.mop_centre.specs.Reply.{Receipt, accepted, told, anywhere, replyReading}
 use Rattle.mop_centre.specs.Reply as centre
 use Rattle.journey.specs.Net.{Net, goodNet, allThere}
 use Rattle.journey.specs.Journey.{Ending, atZero, atNobody, refusedWith, Course, Journey}
@@ -85,9 +85,10 @@ pub data Case : Type 0 where
   tells : List ℕ → List ℕ → String → Case
   -- the addresses of stations, and a first telegram that demand 3 promises the whole way out and back
   promised : List ℕ → List ℕ → Case
-  -- a route, read start and count, write start and values, and the request that the centre writes; or the number that it refuses with
+  -- a route, read start and count, write start and values, and the request that the centre writes into an output just long enough;
+  -- or the places of an output, and the number that it refuses with
   requests : List ℕ → ℕ → ℕ → ℕ → List ℕ → List ℕ → Case
-  noRequest : List ℕ → ℕ → ℕ → ℕ → List ℕ → ℕ → Case
+  noRequest : List ℕ → ℕ → ℕ → ℕ → List ℕ → ℕ → ℕ → Case
   -- a telegram, and what the centre reads in it: route, read start and count, and the bytes of the values; or why it does not take it
   replies : List ℕ → List ℕ → ℕ → ℕ → List ℕ → Case
   noReply : List ℕ → Receipt → Case
@@ -106,11 +107,15 @@ Holds (tells addresses tg text) = Tells addresses tg (codes text)
 Holds (promised addresses tg) = Accepted addresses tg
 Holds (requests route rStart rCount wStart values tg) =
     requesting route rStart rCount wStart values (replicate (length tg) 0) ≡ record { given = filled (length tg); output = tg }
-Holds (noRequest route rStart rCount wStart values k) =
-    requesting route rStart rCount wStart values (replicate 1024 0) ≡ denied k (replicate 1024 0)
+Holds (noRequest route rStart rCount wStart values places k) =
+    requesting route rStart rCount wStart values (replicate places 0) ≡ denied k (replicate places 0)
 Holds (replies tg route start count bytes) =
-    replyReading tg ≡ record { answer = told accepted (routePlaces route) start count; values = bytes; begins = centre.at (length tg - length bytes) }
-Holds (noReply tg r) = replyReading tg ≡ unread r
+    replyReading tg ≡ record {
+      answer = told accepted (route ++ replicate (31 - length route) 0) start count;
+      values = bytes;
+      begins = centre.at (length tg - length bytes);
+    }
+Holds (noReply tg r) = replyReading tg ≡ record { answer = told r (replicate 31 0) 0 0; values = []; begins = anywhere }
 Holds (asks addresses route rStart rCount wStart values n) = Asked addresses route rStart rCount wStart values n
 
 -- each case of a list holds
@@ -118,6 +123,11 @@ infixr 5 _also_
 pub data AllHold : List Case → Type 0 where
   none : AllHold []
   _also_ : {c : Case} {cs : List Case} → Holds c → AllHold cs → AllHold (c ∷ cs)
+
+-- so many stations, with their number first
+abbrev pub downFrom : ℕ → List ℕ
+downFrom zero = []
+downFrom (suc n) = suc n ∷ downFrom n
 
 abbrev pub cases : List Case
 cases =
@@ -211,12 +221,17 @@ cases =
     ∷ replies (0xE0 ∷ 0xFF ∷ 0x00 ∷ 0x04 ∷ 0x00 ∷ 0x00 ∷ 0x03 ∷ 0xA4 ∷ 0x02 ∷ 0x11 ∷ 0x00 ∷ 0x01 ∷ 0x00 ∷ []) (0x04 ∷ []) 932 2 (0x11 ∷ 0x00 ∷ 0x01 ∷ 0x00 ∷ [])
     -- the exchange promises the first of the journeys
     ∷ asks (0x12 ∷ 0x13 ∷ 0x55 ∷ []) (0x12 ∷ 0x13 ∷ 0x55 ∷ []) 955 1 300 (1 ∷ []) 14
-    -- besides, ours: no station, a station twice, no address; a run of 256; and a bad route beside such a run
-    ∷ noRequest [] 955 1 300 (1 ∷ []) 5
-    ∷ noRequest (0x12 ∷ 0x12 ∷ []) 955 1 300 (1 ∷ []) 5
-    ∷ noRequest (0xF1 ∷ []) 955 1 300 (1 ∷ []) 5
-    ∷ noRequest (0x12 ∷ []) 955 256 300 (1 ∷ []) 12
-    ∷ noRequest [] 955 256 300 (1 ∷ []) 5
+    -- besides, ours: an output one place short; no station, a station twice, no address
+    ∷ noRequest (0x12 ∷ 0x13 ∷ 0x55 ∷ []) 955 1 300 (1 ∷ []) 13 11
+    ∷ noRequest [] 955 1 300 (1 ∷ []) 1024 5
+    ∷ noRequest (0x12 ∷ 0x12 ∷ []) 955 1 300 (1 ∷ []) 1024 5
+    ∷ noRequest (0xF1 ∷ []) 955 1 300 (1 ∷ []) 1024 5
+    -- besides, ours: with no output at all, 31 stations pass 5 and 32 do not; and 255 registers and values pass 12, and 256 do not
+    ∷ noRequest (downFrom 31) 955 256 300 [] 0 12
+    ∷ noRequest (downFrom 32) 955 256 300 [] 0 5
+    ∷ noRequest (0xF0 ∷ []) 955 255 300 (replicate 255 1) 0 11
+    ∷ noRequest (0xF0 ∷ []) 955 256 300 (replicate 255 1) 0 12
+    ∷ noRequest (0xF0 ∷ []) 955 255 300 (replicate 256 1) 0 12
     -- besides, ours: behind the mark 00 EF EF EF of a reply stands a block of two entries, and EF is no station of it
     ∷ replies (0xE0 ∷ 0xFF ∷ 0x00 ∷ 0xEF ∷ 0xEF ∷ 0xEF ∷ 0x02 ∷ 0x00 ∷ 0x12 ∷ 0x01 ∷ 0x2C ∷ 0x01 ∷ 0x00 ∷ 0x03 ∷ []) (0x12 ∷ []) 300 1 (0x00 ∷ 0x03 ∷ [])
     -- besides, ours: a telegram for station 12, also with a body of the wrong length; a request; a block that names nobody, also with
