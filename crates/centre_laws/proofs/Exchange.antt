@@ -142,7 +142,7 @@ module _ (net : Net) (route : List ℕ) (rStart rCount wStart : ℕ) (values tel
         )
 
     answer-read : replyReading (lastTelegram (c .transmissions)) ≡ answerFrom (tableAt (routeEnd route) (c .after)) route rStart rCount
-    unfolding replyBody
+    unfolding replyBody routePlaces
     answer-read =
         let s = shape route r in
         ap replyReading last-telegram

@@ -17,7 +17,7 @@ use Rattle.mop_block.proofs.Counts.{distinct-once}
 use Rattle.mop_block.proofs.Stations.{distinct-full, stations-full, stations-spread}
 use Rattle.mop_block.proofs.Zipper.{last-zero, view-is-good}
 use Rattle.mop_header.specs.Header.{Head, head, markByte, markIs, markAgrees, newControl}
-use Rattle.mop_header.specs.Reading.{allowed, goodFor, maxTelegram}
+use Rattle.mop_header.specs.Reading.{allowed, goodFor}
 use Rattle.mop_header.specs.ReadBack.{sized, InOrder}
 use Rattle.mop_header.specs.declared.Function.the-variants.{Request}
 use Rattle.mop_header.specs.declared.Form.{Form}
@@ -29,10 +29,12 @@ use Rattle.mop_header.proofs.Writing.{length-telegram}
 use Rattle.mop_body.specs.Body.{readStart, readCount, writeStart, writeCount, valuesOf, requestBody}
 use Rattle.mop_body.proofs.Bodies.{read-start-back, read-count-back, write-start-back, write-count-back, values-back, length-request-body}
 use Rattle.mop_centre.specs.Request.{goodRoute, requestHead, requestTelegram, maxRun, requesting}
-use Rattle.mop_centre.proofs.Routes.{Route, route-parts, standard-head, extended-head}
+use Rattle.mop_centre.proofs.Routes.{Route, route-parts, by-addresses, standard-head, extended-head}
+use Rattle.mop_centre.proofs.Requests.{request-fitted}
+use Rattle.base.proofs.Filling.{fitted-room}
 use Rattle.journey.specs.Terms.{Fresh}
 use Rattle.journey.proofs.Ring.{lastOf, last-append, last-at}
-use Rattle.centre_laws.specs.ReadBack.{routeEnd, ReadsAs, RequestReadsBack}
+use Rattle.centre_laws.specs.ReadBack.{routeEnd, ReadsAs, RequestReadsBack, EveryRequestFits}
 
 -- the header of a route: its stations ahead, 00s, and nothing passed yet
 pub record Shape (route : List ℕ) : Type 0 where
@@ -123,7 +125,6 @@ neither false b e = (refl, e)
 -- what it wrote
 pub record Wrote (route : List ℕ) (rStart rCount wStart : ℕ) (values out : List ℕ) (n : ℕ) : Type 0 where
   pub good : Route route
-  pub few-read : rCount ≤ maxRun
   pub few-written : length values ≤ maxRun
   pub bytes : take n (requesting route rStart rCount wStart values out .output) ≡ requestTelegram route rStart rCount wStart values
 
@@ -140,26 +141,25 @@ module _ (route : List ℕ) (rStart rCount wStart : ℕ) (values out : List ℕ)
       let long : length telegram ≡ n = same-length (length telegram) n (r .1) in
       record {
         good = route-parts route good;
-        few-read = ltb-false maxRun rCount (few .0);
         few-written = ltb-false maxRun (length values) (few .1);
         bytes = rw (good, q .0, r .0, ← long) (take-placed telegram out);
       }
 
+pub route-order : (route : List ℕ) → Route route → InOrder Station (requestHead route)
+route-order route r =
+    let s = shape route r in
+    subst (InOrder Station) (sym (s .is)) (start-order route r (s .form) (s .gap) (s .size) (s .mark))
+
 -- the telegram is read as what was asked for
 module _ (route : List ℕ) (rStart rCount wStart : ℕ) (values : List ℕ) (r : Route route) where
-  pub route-order : InOrder Station (requestHead route)
-  route-order =
-      let s = shape route r in
-      subst (InOrder Station) (sym (s .is)) (start-order route r (s .form) (s .gap) (s .size) (s .mark))
-
-  pub request-short : length values ≤ maxRun → length (requestTelegram route rStart rCount wStart values) ≤ maxTelegram
+  pub request-most : length values ≤ maxRun → length (requestTelegram route rStart rCount wStart values) ≤ 555
   unfolding requestTelegram
-  request-short few =
+  request-most few =
       let body = requestBody rStart rCount wStart values in
       omega (
         arith,
         length-telegram (requestHead route) body,
-        header-bound Station (requestHead route) route-order,
+        header-bound Station (requestHead route) (route-order route r),
         length-request-body rStart rCount wStart values,
       )
 
@@ -172,7 +172,7 @@ module _ (route : List ℕ) (rStart rCount wStart : ℕ) (values : List ℕ) (r 
       let h = requestHead route in
       let body = requestBody rStart rCount wStart values in
       let s = shape route r in
-      let back = reads-back Station h body route-order (request-short few) in
+      let back = reads-back Station h body (route-order route r) (omega (arith, request-most few)) in
       record {
         order = back .0;
         named = route-named;
@@ -191,3 +191,11 @@ pub request-reads-back : RequestReadsBack
 request-reads-back route rStart rCount wStart values out n e =
     let w = wrote route rStart rCount wStart values out n e in
     subst (ReadsAs route rStart rCount wStart values) (sym (w .bytes)) (request-read route rStart rCount wStart values (w .good) (w .few-written))
+
+pub every-request-fits : EveryRequestFits
+every-request-fits route rStart rCount wStart values out some most distinct few-read few-written room =
+    let r : Route route = record { some = some; most = most; distinct = distinct } in
+    let telegram = requestTelegram route rStart rCount wStart values in
+    let good = by-addresses route some most ∙ distinct in
+    let fits : length telegram ≤ length out = omega (arith, request-most route rStart rCount wStart values r few-written) in
+    (length telegram, ap (λ (f : Filling). f .given) (request-fitted route rStart rCount wStart values out good few-read few-written ∙ fitted-room telegram out fits))

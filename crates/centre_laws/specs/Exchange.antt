@@ -1,17 +1,18 @@
 -- From the centre's call to the centre's answer: a request written, its journey, and the reply read.
 -- Assumes nothing.
-use Prim.Native.Nat.{ℕ, _+_, _*_}
+use Prim.Native.Nat.{ℕ, _+_, _-_, _*_}
 use mathlib.Core.Path.{_≡_}
 use mathlib.Core.Bool.{true}
-use mathlib.Core.List.{List}
+use mathlib.Core.List.{List, _++_}
 use lib.ListN.{length, take}
 use Rattle.base.specs.Words.{bytesOf}
 use Rattle.base.specs.Filling.{filled}
 use Rattle.registers.specs.Runs.{reads}
+use Rattle.mop_block.specs.Zipper.{zeros}
 use Rattle.mop_header.specs.Header.{headerLength}
 use Rattle.mop_station.specs.Body.{accepts, rejects, judgedRuns}
 use Rattle.mop_centre.specs.Request.{requestHead, requesting}
-use Rattle.mop_centre.specs.Reply.{accepted, told, at, ReplyReading, routePlaces, replyReading}
+use Rattle.mop_centre.specs.Reply.{accepted, told, at, ReplyReading, replyReading}
 use Rattle.journey.specs.Net.{Net, goodNet, allThere, tableAt, withTable}
 use Rattle.journey.specs.Journey.{atZero, refusedWith, Course}
 use Rattle.journey.specs.Terms.{Written, lastTelegram}
@@ -22,7 +23,7 @@ use Rattle.centre_laws.specs.ReadBack.{routeEnd, ReadsAs}
 -- it asked for, and as values the registers of that run in a table
 abbrev pub answerFrom : List ℕ → List ℕ → ℕ → ℕ → ReplyReading
 answerFrom table route rStart rCount = record {
-  answer = told accepted (routePlaces route) rStart rCount;
+  answer = told accepted (route ++ zeros (31 - length route)) rStart rCount;
   values = bytesOf (reads table rStart rCount);
   begins = at (headerLength (requestHead route) + 3);
 }

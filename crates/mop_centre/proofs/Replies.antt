@@ -2,13 +2,13 @@
 -- Assumes nothing.
 use mathlib.Core.Path.{_≡_, refl, sym, _∙_, ap, subst}
 use mathlib.Core.Bool.{Bool, true, false, not}
-use mathlib.Core.List.{List, [], _∷_}
+use mathlib.Core.List.{List, []}
 use Prim.Native.Nat.{ℕ, _+_, _-_, _*_, _≤_, _<_}
 use native.Mathlib.Nat.{add-zero}
 use native.Mathlib.Omega.{arith}
 use borrow.Author.Tests.{eq-eqb, ne-eqb, eqb-true}
 use lib.Dec.{eqb}
-use lib.ListN.{length, getD, take, drop, length-drop, drop-of-length-le}
+use lib.ListN.{length, getD, take, drop, length-drop, drop-of-length-le, List·getD-eq-default}
 use lib.Seq.{drop-drop, getD-drop}
 use Rattle.base.specs.Choice.{pick}
 use Rattle.base.specs.Words.{word}
@@ -37,10 +37,7 @@ module _ (body : List ℕ) where
 
 -- a body that is too short for its count has none
 short-count : (body : List ℕ) → length body < 3 → readCount body ≡ 0
-short-count [] h = refl
-short-count (a ∷ []) h = refl
-short-count (a ∷ b ∷ []) h = refl
-short-count (a ∷ b ∷ c ∷ rest) h = absurd (omega arith)
+short-count body h = List·getD-eq-default body 0 (omega arith)
 
 pub short-body : (body : List ℕ) → length body < 3 → judgedReply body ≡ refuses 7
 short-body body h = wrong-length body (λ e. omega (arith, short-count body h))
@@ -76,9 +73,9 @@ refuses-accepted k e = let z : _≡_ {A = ℕ} 0 1 = cc in omega arith
 not-mine-accepted : notMine ≡ accepted → ⊥
 not-mine-accepted e = let z : _≡_ {A = ℕ} 0 1 = cc in omega arith
 
-length-passed : (body : List ℕ) (t : Bool) → pick (not t) (refuses 7) accepted ≡ accepted → t ≡ true
-length-passed body true e = refl
-length-passed body false e = absurd (refuses-accepted 7 e)
+length-passed : (t : Bool) → pick (not t) (refuses 7) accepted ≡ accepted → t ≡ true
+length-passed true e = refl
+length-passed false e = absurd (refuses-accepted 7 e)
 
 first-passed : (r : Receipt) (t : Bool) → pick (not t) notMine r ≡ accepted → (t ≡ true) × (r ≡ accepted)
 first-passed r true e = (refl, e)
@@ -95,7 +92,7 @@ passed-by telegram fine e a =
     record {
       order = reading-fine Centre telegram e;
       mine = eqb-true (first (h .block)) 0 (p .0);
-      long = eqb-true (length body) (3 + 2 * readCount body) (length-passed body (eqb (length body) (3 + 2 * readCount body)) (p .1));
+      long = eqb-true (length body) (3 + 2 * readCount body) (length-passed (eqb (length body) (3 + 2 * readCount body)) (p .1));
     }
 
 pub accepted-passed : (telegram : List ℕ) → replyReceipt telegram ≡ accepted → Passed telegram (reading Centre telegram .header)

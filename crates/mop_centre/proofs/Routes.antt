@@ -1,6 +1,6 @@
 -- Routes: the tests in turn, the block that a route gives, and the places that it is told in.
 -- Assumes nothing.
-use mathlib.Core.Path.{_≡_, refl, _∙_, ap, subst}
+use mathlib.Core.Path.{_≡_, refl, sym, _∙_, ap, subst}
 use mathlib.Core.Bool.{true, false, _&&_, and-false, and-eq-true-iff}
 use mathlib.Core.List.{List, [], _∷_, _++_}
 use Prim.Native.Nat.{ℕ, zero, suc, _+_, _-_, _≤_, _<_}
@@ -10,7 +10,7 @@ use native.Mathlib.Omega.{arith}
 use borrow.Author.Tests.{leb-true, le-leb, lt-leb}
 use lib.Dec.{leb}
 use lib.ListN.{length, getD, take, drop, set, length-take, length-replicate}
-use lib.Seq.{sets, take-all, take-append-add}
+use lib.Seq.{sets, length-sets, take-all, take-append-add}
 use Rattle.base.specs.Places.{placed}
 use Rattle.base.proofs.Places.{sets-placed}
 use Rattle.mop_block.specs.Block.{distinctAddresses, stations}
@@ -107,4 +107,6 @@ one-fewer b i h d = ap length (station-next b i h d)
 
 pub told-places : (route : List ℕ) → length route ≤ maxRoute → sets (zeros maxRoute) 0 route ≡ routePlaces route
 unfolding routePlaces
-told-places route h = sets-placed route (zeros maxRoute) (omega (arith, length-replicate {A = ℕ} maxRoute 0))
+told-places route h =
+    sym (take-all maxRoute (sets (zeros maxRoute) 0 route) (omega (arith, length-sets (zeros maxRoute) 0 route, length-replicate {A = ℕ} maxRoute 0)))
+    ∙ filled-up route maxRoute maxRoute h (omega arith)

@@ -1,14 +1,13 @@
 -- What the centre reads in a telegram.
 -- Assumes nothing.
-use Prim.Native.Nat.{ℕ, _+_, _*_, _≤_}
+use Prim.Native.Nat.{ℕ, _+_, _-_, _*_, _≤_}
 use mathlib.Core.Path.{_≡_}
 use mathlib.Core.Bool.{not}
-use mathlib.Core.List.{List, []}
+use mathlib.Core.List.{List, [], _++_}
 use lib.Dec.{eqb}
 use lib.ListN.{length}
 use denote.Ref.{RefT, ptr, now}
 use Rattle.base.specs.Choice.{pick}
-use Rattle.base.specs.Places.{placed}
 use Rattle.refusal.specs.Numbers.{numberOf}
 use Rattle.mop_block.specs.Block.{stations, first}
 use Rattle.mop_block.specs.Zipper.{zeros}
@@ -71,7 +70,7 @@ pub record ReplyReading : Type 0 where
 
 -- the stations in order, and 0 in the places that are left
 unfoldable pub routePlaces : List ℕ → List ℕ
-routePlaces route = placed route (zeros maxRoute)
+routePlaces route = route ++ zeros (maxRoute - length route)
 
 -- an accepted reply, of its header and its body
 unfoldable pub readOut : Head → List ℕ → ReplyReading
@@ -89,6 +88,7 @@ unread r = record {
   begins = anywhere;
 }
 
+-- by the verdict: an accepted reply is read out, and of any other only the verdict is told
 unfoldable pub opened : Receipt → Head → List ℕ → ReplyReading
 opened accepted h telegram = readOut h (bodyOf h telegram)
 opened notMine h telegram = unread notMine

@@ -18,7 +18,8 @@ use Rattle.mop_body.specs.Body.{requestBody}
 abbrev pub maxRoute : ℕ
 maxRoute = 31
 
--- "route": the relays in order, and the destination last; 1 to 31 different stations, each 01 to F0
+-- "route": the relays in order, and the destination last. It has at least one station and no more than 31, all of them different
+-- addresses
 unfoldable pub goodRoute : List ℕ → Bool
 goodRoute route = leb 1 (length route) && leb (length route) maxRoute && distinctAddresses route
 

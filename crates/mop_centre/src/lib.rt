@@ -26,7 +26,7 @@ pub const MAX_ROUTE: usize = 31;
 // The most registers of a run.
 const MAX_RUN: usize = 255;
 
-// Whether the centre takes a telegram as a reply: yes; no, as it is a station's; or why not.
+// What the centre says of a telegram: a reply for the centre, a telegram for a station, or a refusal.
 pub enum ReplyVerdict {
     Accepted,
     NotMine,
@@ -62,7 +62,7 @@ fn request_header(route: &[u8]) -> Header
     ensures { λ r. ⌜ headOf r ≡ requestHead (now (route .entry)) ⌝ }
 {
     let n = route.len();
-    let mut block = [0u8; 32];
+    let mut block = [0u8; MAX_ROUTE + 1];
     places::put(route, &mut block, 0);
     if n <= 3 {
         return Header::new(Function::Request, NEW_CONTROL, Form::Standard, &block[0..4]);
@@ -77,7 +77,7 @@ fn request_header(route: &[u8]) -> Header
 }
 
 // Room for the longest body of a request: six bytes, and the values of the longest run.
-const REQUEST_BODY: usize = 516;
+const REQUEST_BODY: usize = 6 + 2 * MAX_RUN;
 
 // The body of a request in the first places.
 fn request_body(rstart: u16, rcount: u8, wstart: u16, values: &[u16]) -> [u8; REQUEST_BODY]
@@ -231,8 +231,9 @@ fn unread(verdict: ReplyVerdict) -> ReplyRead
 }
 
 // What a reply to the centre says: its route, and the run that was read. The values are given by read_reply_values.
-// Not mine: the first entry of the block is a station's. Refused: 12, 2, 3, 4, 5, 6 for the header, where 3 is given for a
-// request and 5 also for a block that names nobody; 7 for a body that is not as long as its count says.
+// Not mine: the first entry of the block is a station's. Refused: 12, 2, 3, 4, 5, 6 for the header, where 3 is given for every
+// function byte but that of a reply, and 5 also for a block that names nobody; 7 for a body that is not as long as its count
+// says.
 pub fn read_reply(telegram: &[u8]) -> ReplyRead
     ensures { λ r. ⌜ answerOf r ≡ replyReading (now (telegram .entry)) .answer ⌝ }
 {

@@ -2,12 +2,12 @@
 -- Assumes nothing.
 use mathlib.Core.Path.{_≡_, refl}
 use mathlib.Core.Bool.{Bool, true, false, not, _&&_, and-false, and-eq-true-iff}
-use mathlib.Core.List.{List, [], _∷_}
+use mathlib.Core.List.{List}
 use Prim.Native.Nat.{ℕ, _+_, _*_, _<_}
 use native.Mathlib.Omega.{arith}
 use borrow.Author.Tests.{eq-eqb, ne-eqb, eqb-true}
 use lib.Dec.{eqb, leb}
-use lib.ListN.{length}
+use lib.ListN.{length, List·getD-eq-default}
 use Rattle.base.specs.Choice.{pick}
 use Rattle.base.proofs.Choice.{pick-either}
 use Rattle.registers.specs.Runs.{runExists, runMayWrite, runTakes}
@@ -39,13 +39,7 @@ module _ (rStart rCount wStart wCount : ℕ) (values : List ℕ) where
 
 -- a body that is too short for its counts has no write count
 short-count : (body : List ℕ) → length body < 6 → writeCount body ≡ 0
-short-count [] h = refl
-short-count (a ∷ []) h = refl
-short-count (a ∷ b ∷ []) h = refl
-short-count (a ∷ b ∷ c ∷ []) h = refl
-short-count (a ∷ b ∷ c ∷ d ∷ []) h = refl
-short-count (a ∷ b ∷ c ∷ d ∷ e ∷ []) h = refl
-short-count (a ∷ b ∷ c ∷ d ∷ e ∷ f ∷ rest) h = absurd (omega arith)
+short-count body h = List·getD-eq-default body 0 (omega arith)
 
 module _ (body : List ℕ) where
   pub wrong-length : (length body ≡ 6 + 2 * writeCount body → ⊥) → judgedBody body ≡ rejects 7

@@ -141,8 +141,10 @@ worked-cases =
     also outright-by _ _ _ refl
     also refl also refl also refl also refl also refl also refl also refl also refl also refl also refl
     also asked-by _ _ _ _ _ _ _ refl refl refl refl
+    also asked-by _ _ _ _ _ _ _ refl refl refl refl
     also refl
     also refl also refl also refl also refl also refl also refl also refl also refl also refl
     also refl
     also refl also refl also refl also refl also refl also refl also refl also refl
+    also refl also refl also refl also refl also refl also refl also refl
     also none

@@ -85,8 +85,8 @@ pub data Case : Type 0 where
   tells : List ℕ → List ℕ → String → Case
   -- the addresses of stations, and a first telegram that demand 3 promises the whole way out and back
   promised : List ℕ → List ℕ → Case
-  -- a route, read start and count, write start and values, and the request that the centre writes into an output just long enough;
-  -- or the places of an output, and the number that it refuses with
+  -- a route, read start and count, write start and values, and the request that the centre writes into an output with two more places,
+  -- which keep their values; or the places of an output, and the number that the centre refuses with
   requests : List ℕ → ℕ → ℕ → ℕ → List ℕ → List ℕ → Case
   noRequest : List ℕ → ℕ → ℕ → ℕ → List ℕ → ℕ → ℕ → Case
   -- a telegram, and what the centre reads in it: route, read start and count, and the bytes of the values; or why it does not take it
@@ -106,7 +106,8 @@ Holds (travels addresses tg transmissions e after) = Travels addresses tg transm
 Holds (tells addresses tg text) = Tells addresses tg (codes text)
 Holds (promised addresses tg) = Accepted addresses tg
 Holds (requests route rStart rCount wStart values tg) =
-    requesting route rStart rCount wStart values (replicate (length tg) 0) ≡ record { given = filled (length tg); output = tg }
+    requesting route rStart rCount wStart values (replicate (length tg) 0 ++ (0x07 ∷ 0x08 ∷ []))
+    ≡ record { given = filled (length tg); output = tg ++ (0x07 ∷ 0x08 ∷ []) }
 Holds (noRequest route rStart rCount wStart values places k) =
     requesting route rStart rCount wStart values (replicate places 0) ≡ denied k (replicate places 0)
 Holds (replies tg route start count bytes) =
@@ -219,8 +220,9 @@ cases =
     ∷ replies (0xE0 ∷ 0xFF ∷ 0x00 ∷ 0x07 ∷ 0x08 ∷ 0x04 ∷ 0x00 ∷ 0x02 ∷ 0x04 ∷ 0x00 ∷ 0x05 ∷ 0x06 ∷ 0x20 ∷ 0x0A ∷ 0x71 ∷ 0x01 ∷ 0x47 ∷ []) (0x07 ∷ 0x08 ∷ 0x04 ∷ []) 2 4 (0x00 ∷ 0x05 ∷ 0x06 ∷ 0x20 ∷ 0x0A ∷ 0x71 ∷ 0x01 ∷ 0x47 ∷ [])
     ∷ requests (0x04 ∷ []) 906 2 1 (128 ∷ []) (0x60 ∷ 0xFF ∷ 0x04 ∷ 0x00 ∷ 0x00 ∷ 0x00 ∷ 0x03 ∷ 0x8A ∷ 0x02 ∷ 0x00 ∷ 0x01 ∷ 0x01 ∷ 0x00 ∷ 0x80 ∷ [])
     ∷ replies (0xE0 ∷ 0xFF ∷ 0x00 ∷ 0x04 ∷ 0x00 ∷ 0x00 ∷ 0x03 ∷ 0xA4 ∷ 0x02 ∷ 0x11 ∷ 0x00 ∷ 0x01 ∷ 0x00 ∷ []) (0x04 ∷ []) 932 2 (0x11 ∷ 0x00 ∷ 0x01 ∷ 0x00 ∷ [])
-    -- the exchange promises the first of the journeys
+    -- the exchange promises the journeys over two relays, and by an extended route
     ∷ asks (0x12 ∷ 0x13 ∷ 0x55 ∷ []) (0x12 ∷ 0x13 ∷ 0x55 ∷ []) 955 1 300 (1 ∷ []) 14
+    ∷ asks (0x21 ∷ 0x22 ∷ 0x23 ∷ 0x24 ∷ 0x25 ∷ []) (0x21 ∷ 0x22 ∷ 0x23 ∷ 0x24 ∷ 0x25 ∷ []) 957 2 958 (45 ∷ []) 21
     -- besides, ours: four stations, the fewest of an extended request
     ∷ requests (0x12 ∷ 0x13 ∷ 0x14 ∷ 0x55 ∷ []) 955 1 300 (1 ∷ []) (0x60 ∷ 0xFF ∷ 0xEF ∷ 0xEF ∷ 0xEF ∷ 0xEF ∷ 0x05 ∷ 0x12 ∷ 0x13 ∷ 0x14 ∷ 0x55 ∷ 0x00 ∷ 0x03 ∷ 0xBB ∷ 0x01 ∷ 0x01 ∷ 0x2C ∷ 0x01 ∷ 0x00 ∷ 0x01 ∷ [])
     -- besides, ours: an output one place short; no station, a station twice, no address
@@ -246,6 +248,15 @@ cases =
     ∷ noReply (0xE0 ∷ 0xFF ∷ 0xEF ∷ 0xEF ∷ 0xEF ∷ 0xEF ∷ 0x02 ∷ 0x00 ∷ 0x12 ∷ 0x03 ∷ 0xBB ∷ 0x01 ∷ 0x00 ∷ 0x00 ∷ []) (centre.refuses 6)
     ∷ noReply (0xE0 ∷ 0xFF ∷ 0x00 ∷ 0x12 ∷ 0x13 ∷ 0x55 ∷ 0x03 ∷ 0xBB ∷ 0x01 ∷ 0x00 ∷ []) (centre.refuses 7)
     ∷ noReply (0xE0 ∷ 0xFF ∷ 0x00 ∷ 0x12 ∷ 0x13 ∷ 0x55 ∷ 0x03 ∷ 0xBB ∷ 0x01 ∷ 0x00 ∷ 0x00 ∷ 0x00 ∷ []) (centre.refuses 7)
+    -- besides, ours: the faults of a header in their order. Too long; under 6 bytes, before the function byte; the function byte, before
+    -- the count; no count; 33 entries, of which none is there; 3 entries, of which two are there; and a header without a body
+    ∷ noReply (replicate 1025 0) (centre.refuses 12)
+    ∷ noReply (0x60 ∷ 0xFF ∷ 0x00 ∷ 0x12 ∷ 0x00 ∷ []) (centre.refuses 2)
+    ∷ noReply (0x60 ∷ 0xFF ∷ 0xEF ∷ 0xEF ∷ 0xEF ∷ 0xEF ∷ []) (centre.refuses 3)
+    ∷ noReply (0xE0 ∷ 0xFF ∷ 0x00 ∷ 0xEF ∷ 0xEF ∷ 0xEF ∷ []) (centre.refuses 2)
+    ∷ noReply (0xE0 ∷ 0xFF ∷ 0x00 ∷ 0xEF ∷ 0xEF ∷ 0xEF ∷ 0x21 ∷ []) (centre.refuses 4)
+    ∷ noReply (0xE0 ∷ 0xFF ∷ 0x00 ∷ 0xEF ∷ 0xEF ∷ 0xEF ∷ 0x03 ∷ 0x00 ∷ 0x12 ∷ []) (centre.refuses 2)
+    ∷ noReply (0xE0 ∷ 0xFF ∷ 0x00 ∷ 0x12 ∷ 0x00 ∷ 0x00 ∷ []) (centre.refuses 7)
     ∷ []
 
 -- every case of the table holds
