@@ -28,10 +28,7 @@ sub-result c =
     omega (arith, body-room _ (opened .ensures .1) accepted)
 
 part-result-start : tie.Need-part-result-start
-part-result-start c =
-    let opened = c .before .before .before .before .open-reply in
-    let accepted = sym (opened .ensures .0) ∙ ap receiptOf (c .before .enum-told .given .1) in
-    omega (arith, body-room _ (opened .ensures .1) accepted)
+part-result-start c = sub-result c
 
 part-result-end : tie.Need-part-result-end
 part-result-end c = search needs
