@@ -3,7 +3,7 @@
 use crate::centre::{Call, Request, PARTS};
 use crate::inputs::{Case, Mode, Random};
 use crate::listed::{self, case, encode, Listed, MOST};
-use crate::telegrams::{all_runs, forms, mark_of, marked, telegram, writable_runs};
+use crate::telegrams::{all_runs, counted, forms, mark_of, marked, telegram, writable_runs};
 use crate::telegrams::{REPLY, REQUEST};
 use reference::centre::MAX_ROUTE;
 use reference::net::{journey, MAX_STATIONS};
@@ -426,17 +426,14 @@ fn damaged_blocks(random: &mut Random) -> Vec<Call> {
 /// Every count of entries, with as many of them, with fewer and with more.
 fn entries(random: &mut Random) -> Vec<Call> {
     let mut calls = Vec::new();
-    for count in 0..=u8::MAX {
-        let n = usize::from(count);
-        for entries in [n.max(1), n.max(2) - 1, n + 1, 2, 32] {
-            for mark in [0x00, 0xEF] {
-                let mut block = vec![0; entries];
-                block[entries - 1] = random.address();
-                let values = random.some_count();
-                let mut reply = marked(REPLY, mark, &block, &random.reply_body(values));
-                reply[6] = count;
-                calls.push(Call::Reply(reply));
-            }
+    for (count, entries) in counted() {
+        for mark in [0x00, 0xEF] {
+            let mut block = vec![0; entries];
+            block[entries - 1] = random.address();
+            let values = random.some_count();
+            let mut reply = marked(REPLY, mark, &block, &random.reply_body(values));
+            reply[6] = count;
+            calls.push(Call::Reply(reply));
         }
     }
     calls

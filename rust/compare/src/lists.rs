@@ -3,7 +3,9 @@
 use crate::calls::{Bank, Call, TABLE};
 use crate::inputs::{Case, Mode, Random};
 use crate::listed::{self, case, encode, MOST};
-use crate::telegrams::{all_runs, body, faulty_bodies, first_entry, forms, mark_of, marked};
+use crate::telegrams::{
+    all_runs, body, counted, faulty_bodies, first_entry, forms, mark_of, marked,
+};
 use crate::telegrams::{row, telegram, writable_runs, FUNCTIONS, REPLY, REQUEST};
 use reference::registers::{COUNT, ROWS};
 
@@ -163,20 +165,17 @@ fn lengths(random: &mut Random) -> Vec<Call> {
 /// Every count of entries, with as many of them, with fewer and with more.
 fn counts(random: &mut Random) -> Vec<Call> {
     let mut calls = Vec::new();
-    for count in 0..=u8::MAX {
-        let n = usize::from(count);
-        for entries in [n.max(1), n.max(2) - 1, n + 1, 2, 32] {
-            for function in FUNCTIONS {
-                let mut block = vec![0; entries];
-                block[0] = OWN;
-                let body = random.good_body();
-                let mut bytes = marked(function, 0xEF, &block, &body);
-                bytes[6] = count;
-                if random.once_in(4) {
-                    bytes.truncate(7 + entries);
-                }
-                calls.push(call(bytes));
+    for (count, entries) in counted() {
+        for function in FUNCTIONS {
+            let mut block = vec![0; entries];
+            block[0] = OWN;
+            let body = random.good_body();
+            let mut bytes = marked(function, 0xEF, &block, &body);
+            bytes[6] = count;
+            if random.once_in(4) {
+                bytes.truncate(7 + entries);
             }
+            calls.push(call(bytes));
         }
     }
     calls

@@ -272,6 +272,14 @@ impl Random {
     }
 }
 
+/// Every count of entries, with as many of them, with fewer and with more.
+pub fn counted() -> impl Iterator<Item = (u8, usize)> {
+    (0..=u8::MAX).flat_map(|count| {
+        let n = usize::from(count);
+        [n.max(1), n.max(2) - 1, n + 1, 2, 32].map(|entries| (count, entries))
+    })
+}
+
 #[cfg(test)]
 mod tests {
     use super::*;
