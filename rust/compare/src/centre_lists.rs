@@ -15,7 +15,7 @@ const LIST: usize = 10_000;
 /// All lists.
 pub fn lists(random: &mut Random) -> Vec<Case> {
     let mut cases = ends(random);
-    for (name, calls) in [
+    let kinds = [
         ("lengths of routes", routes(random)),
         ("damaged routes", damaged_routes(random)),
         ("counts and outputs", counts(random)),
@@ -34,9 +34,8 @@ pub fn lists(random: &mut Random) -> Vec<Case> {
         ("faults together", faults(random)),
         ("exchanges", exchanges(random)),
         ("any telegrams", any_telegrams(random)),
-    ] {
-        cases.extend(listed::cases(Mode::Centre, name, &calls, LIST));
-    }
+    ];
+    cases.extend(listed::cases(Mode::Centre, LIST, kinds));
     cases
 }
 

@@ -56,10 +56,17 @@ pub fn case(mode: Mode, name: &str, input: Vec<u8>, piece: usize) -> Case {
     }
 }
 
-/// All items, in lists of at most so many.
-pub fn cases<T: Listed>(mode: Mode, name: &str, items: &[T], most: usize) -> Vec<Case> {
-    let lists = items.chunks(most);
-    lists
-        .map(|items| case(mode, name, encode(items), usize::MAX))
-        .collect()
+/// The items of every kind, in lists of at most so many.
+pub fn cases<T: Listed, const N: usize>(
+    mode: Mode,
+    most: usize,
+    kinds: [(&str, Vec<T>); N],
+) -> Vec<Case> {
+    let mut cases = Vec::new();
+    for (name, items) in kinds {
+        for items in items.chunks(most) {
+            cases.push(case(mode, name, encode(items), usize::MAX));
+        }
+    }
+    cases
 }

@@ -18,7 +18,7 @@ const LIST: usize = 50_000;
 /// All lists.
 pub fn lists(random: &mut Random) -> Vec<Case> {
     let mut cases = ends();
-    for (name, calls) in [
+    let kinds = [
         ("rotations", rotations(random)),
         ("damaged blocks", damaged(random)),
         ("lengths of telegrams", lengths(random)),
@@ -35,9 +35,8 @@ pub fn lists(random: &mut Random) -> Vec<Case> {
         ("outputs", outputs(random)),
         ("journeys", journeys(random)),
         ("anything", anything(random)),
-    ] {
-        cases.extend(listed::cases(Mode::Station, name, &calls, LIST));
-    }
+    ];
+    cases.extend(listed::cases(Mode::Station, LIST, kinds));
     cases
 }
 

@@ -15,7 +15,7 @@ const LIST: usize = 2_000;
 /// All lists.
 pub fn lists(random: &mut Random) -> Vec<Case> {
     let mut cases = ends(random);
-    for (name, runs) in [
+    let kinds = [
         ("fresh requests", fresh(random)),
         ("rotations", rotations(random)),
         ("stations that are missing", missing(random)),
@@ -28,9 +28,8 @@ pub fn lists(random: &mut Random) -> Vec<Case> {
         ("outputs", outputs(random)),
         ("faults together", faults(random)),
         ("anything", anything(random)),
-    ] {
-        cases.extend(listed::cases(Mode::Net, name, &runs, LIST));
-    }
+    ];
+    cases.extend(listed::cases(Mode::Net, LIST, kinds));
     cases
 }
 
