@@ -38,7 +38,7 @@ functionByte Reply = 0xE0
 -- the bytes of the header between the control byte and the body: the block; or the mark, the block's length and the block
 unfoldable pub addressBytes : Form → List ℕ → List ℕ
 addressBytes Standard b = b
-addressBytes (Extended m) b = m ∷ 0xEF ∷ 0xEF ∷ 0xEF ∷ length b ∷ b
+addressBytes (Extended mark) b = mark ∷ 0xEF ∷ 0xEF ∷ 0xEF ∷ length b ∷ b
 
 -- the bytes of the header, and their number
 unfoldable pub headerBytes : Head → List ℕ
@@ -72,11 +72,11 @@ markByte Reply (suc a) = 0xEF
 -- none can disagree
 unfoldable pub markIs : Form → ℕ → Bool
 markIs Standard k = true
-markIs (Extended m) k = eqb m k
+markIs (Extended mark) k = eqb mark k
 
 unfoldable pub withMark : Form → ℕ → Form
 withMark Standard k = Standard
-withMark (Extended m) k = Extended k
+withMark (Extended mark) k = Extended k
 
 -- whether the mark agrees with the block
 unfoldable pub markAgrees : Head → Bool

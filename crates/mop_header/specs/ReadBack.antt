@@ -17,7 +17,7 @@ use Rattle.mop_header.specs.declared.Reader.{Reader}
 -- the lengths that a block has in a form
 unfoldable pub sized : Form → ℕ → Bool
 sized Standard n = eqb n 4
-sized (Extended m) n = goodCount n
+sized (Extended mark) n = goodCount n
 
 -- a header in order for a reader
 pub record InOrder (who : Reader) (h : Head) : Type 0 where

@@ -21,7 +21,7 @@ abbrev pub acceptanceOf : BodyVerdict → Acceptance
 acceptanceOf Accepted = accepts
 acceptanceOf (Rejected r) = rejects (numberOf r)
 
--- the runs of a request: 8 over both, then 9 and 10 over the write run. Behind 7 there are as many values as its count says
+-- the runs of a request: 8 over both, then 9 and 10 over the write run. A body that passed 7 has as many values as its count says
 unfoldable pub judgedRuns : ℕ → ℕ → ℕ → ℕ → List ℕ → Acceptance
 judgedRuns rStart rCount wStart wCount values =
     pick (not (runExists rStart rCount && runExists wStart wCount)) (rejects 8)

@@ -7,7 +7,7 @@ use native.Mathlib.Omega.{arith}
 use lib.ListN.{length, length-set, length-take}
 use Rattle.mop_header.specs.Header.{headOf}
 use Rattle.mop_header.specs.Reading.{Reading}
-use Rattle.report.specs.Text.{lineFeed, hexBytes, decimal, line}
+use Rattle.report.specs.Text.{lineFeed, hexBytes, decimal}
 use Rattle.report.specs.Writing.{writing}
 use Rattle.report.proofs.Writing.{behind, place, stored}
 use Rattle.report.proofs.Lengths.{decimal-bound, length-hex}
