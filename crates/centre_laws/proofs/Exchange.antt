@@ -1,17 +1,18 @@
 -- From the centre's call to the centre's answer: the journey of a written request, and its last telegram read by the centre.
 -- Assumes nothing.
 use mathlib.Core.Path.{_≡_, refl, sym, _∙_, ap, subst}
-use mathlib.Core.Bool.{true}
+use mathlib.Core.Bool.{Bool, true}
 use mathlib.Core.List.{List, [], _++_, map}
 use Prim.Native.Nat.{ℕ, suc, _+_, _-_, _*_, _≤_, _<_}
 use native.Mathlib.Omega.{arith}
 use borrow.Author.Tests.{lt-ltb}
-use lib.ListN.{length, take, length-map}
+use lib.ListN.{length, take}
 use Rattle.base.specs.Words.{bytesOf}
+use Rattle.base.proofs.Choice.{pick-either}
 use Rattle.registers.specs.Runs.{reads}
 use Rattle.registers.proofs.Runs.{length-reads}
 use Rattle.mop_block.specs.Block.{stations, first, rollRight}
-use Rattle.mop_block.specs.Zipper.{spread, returned}
+use Rattle.mop_block.specs.Zipper.{spread, returned, Full, nil, cons}
 use Rattle.mop_block.proofs.Rolls.{length-right}
 use Rattle.mop_block.proofs.Stations.{good-length, stations-returned}
 use Rattle.mop_block.proofs.Zipper.{returned-is-good, right-returns}
@@ -23,27 +24,28 @@ use Rattle.mop_header.specs.declared.Reader.the-variants.{Station, Centre}
 use Rattle.mop_header.proofs.Lengths.{length-remarked, headerRoom, length-header, header-bound}
 use Rattle.mop_header.proofs.Marks.{remarked-agrees, remarked-block}
 use Rattle.mop_header.proofs.Readers.{taken-good, centre-takes}
-use Rattle.mop_header.proofs.ReadBack.{is-written}
+use Rattle.mop_header.proofs.ReadBack.{body-behind, is-written}
 use Rattle.mop_header.proofs.Writing.{length-telegram}
-use Rattle.mop_body.specs.Body.{readStart, readCount, writeStart, writeCount, valuesOf}
+use Rattle.mop_body.specs.Body.{readStart, readCount, writeStart, writeCount, valuesOf, requestBody}
 use Rattle.mop_station.specs.Body.{accepts, judgedRuns, judgedBody, replyBody}
 use Rattle.mop_station.proofs.Bodies.{right-length}
 use Rattle.mop_station.proofs.Answers.{reply-bound}
-use Rattle.mop_centre.specs.Request.{requestHead, requesting}
-use Rattle.mop_centre.specs.Reply.{accepted, told, at, routePlaces, replyReading}
+use Rattle.mop_centre.specs.Request.{requestHead, requestTelegram, requesting}
+use Rattle.mop_centre.specs.Reply.{ReplyReading, acceptedReading, replyReading}
 use Rattle.mop_centre.proofs.Routes.{Route}
-use Rattle.journey.specs.Net.{Net, goodNet, allThere, tableAt, withTable}
-use Rattle.journey.specs.Journey.{Course, Journey}
-use Rattle.journey.specs.Terms.{m, shows, shown, Written, destination, lastTelegram}
-use Rattle.journey.specs.Demand3.{Accomplished, Declined}
+use Rattle.journey.specs.Net.{Net, goodNet, isThere, allThere, upToMissing, tableAt, withTable}
+use Rattle.journey.specs.Journey.{Ending, Course, Journey}
+use Rattle.journey.specs.Terms.{m, thereAndBack, Written, destination, lastTelegram}
+use Rattle.journey.specs.Demand3.{Accomplished, Unanswered}
 use Rattle.journey.specs.Transmissions.{outward, relayedBlock, homeward, requestOn, replyOn, allTelegrams}
 use Rattle.journey.proofs.Telegrams.{sized-with}
 use Rattle.journey.proofs.Whole.{every-journey, byte-for-byte}
 use Rattle.centre_laws.specs.ReadBack.{routeEnd, ReadsAs}
-use Rattle.centre_laws.specs.Exchange.{answerFrom, Answered, Rejected, Exchange, EveryExchange}
+use Rattle.centre_laws.specs.Exchange.{answerFrom, Answered, NoAnswer, Exchange, EveryExchange}
 use Rattle.centre_laws.proofs.Requests.{Shape, shape, route-full, route-once, wrote, request-reads-back}
-use Rattle.centre_laws.proofs.Replies.{reply-reads-back}
+use Rattle.centre_laws.proofs.Replies.{receipt-read, reply-reads-back}
 use Rattle.centre_laws.proofs.Rolls.{last-reply}
+use Rattle.centre_laws.proofs.Heard.{requests-heard, journey-heard}
 
 -- a body with the parts that the centre handed in is judged by them
 judged-parts : (body : List ℕ) {a b c : ℕ} {values : List ℕ} → readStart body ≡ a → readCount body ≡ b → writeStart body ≡ c → writeCount body ≡ length values →
@@ -90,6 +92,12 @@ module _ (route : List ℕ) (r : Route route) (s : Shape route) where
       ∙ sym (length-header (head Request newControl (s .form) (spread route (s .gap) [])))
       ∙ ap headerLength (sym (s .is))
 
+-- the stations up to one that is missing are stations
+full-missing : (net : Net) {l : List ℕ} → Full l → Full (upToMissing l net)
+unfolding upToMissing
+full-missing net nil = nil
+full-missing net (cons {a = a} f) = cons (pick-either Full (isThere (suc a) net) (full-missing net f) nil)
+
 -- the last transmission is a reply with that header
 replies-home : (h : Head) (body reply : List ℕ) (k : ℕ) → m h ≡ suc k → 0 < length (h .block) →
     lastTelegram (allTelegrams h body reply) ≡ replyOn h reply (rollRight (h .block))
@@ -102,7 +110,8 @@ replies-home h body reply k e some =
 
 -- the journey of a request of the centre, by the verdict on what the centre handed in
 module _ (net : Net) (route : List ℕ) (rStart rCount wStart : ℕ) (values telegram : List ℕ) (r : Route route)
-    (w : ReadsAs route rStart rCount wStart values telegram) (fit : goodNet net ≡ true) (there : allThere route net ≡ true) where
+    (w : ReadsAs route rStart rCount wStart values telegram) (wrote-body : bodyOf (requestHead route) telegram ≡ requestBody rStart rCount wStart values)
+    (fit : goodNet net ≡ true) where
   abbrev h : Head
   h = requestHead route
 
@@ -112,11 +121,11 @@ module _ (net : Net) (route : List ℕ) (rStart rCount wStart : ℕ) (values tel
   judged : judgedBody body ≡ judgedRuns rStart rCount wStart (length values) values
   judged = judged-parts body (w .read-start) (w .read-count) (w .write-start) (w .write-count) (w .values-back) (w .whole-body)
 
-  all-there : allThere (stations (h .block)) net ≡ true
-  all-there = ap (λ (l : List ℕ). allThere l net) (w .named) ∙ there
+  there-by : {t : Bool} → allThere route net ≡ t → allThere (stations (h .block)) net ≡ t
+  there-by e = ap (λ (l : List ℕ). allThere l net) (w .named) ∙ e
 
   -- the last telegram, read by the centre
-  module _ (c : Course) (j : Journey net telegram c) (verdict : judgedBody body ≡ accepts) where
+  module _ (c : Course) (j : Journey net telegram c) (there : allThere route net ≡ true) (verdict : judgedBody body ≡ accepts) where
     abbrev table : List ℕ
     table = tableAt (destination h) (c .after)
 
@@ -126,7 +135,7 @@ module _ (net : Net) (route : List ℕ) (rStart rCount wStart : ℕ) (values tel
         let reply = replyBody body table in
         let many : m h ≡ suc (length route - 1) = w .many ∙ omega (arith, r .some) in
         let block = ap (λ (g : Head). g .block) (s .is) in
-        ap lastTelegram (byte-for-byte net telegram c fit j h (w .order) (w .fresh) all-there verdict)
+        ap lastTelegram (byte-for-byte net telegram c fit j h (w .order) (w .fresh) (there-by there) verdict)
         ∙ replies-home h body reply (length route - 1) many (good-length (h .block) (taken-good Station (h .block) (is-written Station telegram h (w .order) .order .block)))
         ∙ (λ i. replyOn (s .is i) reply (rollRight (block i)))
         ∙ ap (replyOn (head Request newControl (s .form) (spread route (s .gap) [])) reply) (right-returns route (s .gap))
@@ -142,17 +151,14 @@ module _ (net : Net) (route : List ℕ) (rStart rCount wStart : ℕ) (values tel
         )
 
     answer-read : replyReading (lastTelegram (c .transmissions)) ≡ answerFrom (tableAt (routeEnd route) (c .after)) route rStart rCount
-    unfolding replyBody routePlaces
+    unfolding replyBody
     answer-read =
         let s = shape route r in
         ap replyReading last-telegram
         ∙ reply-reads-back (home route r s) body (reads table (readStart body) (readCount body)) (home-order route r s) (home-first route r s)
         (length-reads table (readStart body) (readCount body)) reply-short
-        ∙ (λ i. record {
-          answer = told accepted (routePlaces (home-named route r s i)) (w .read-start i) (w .read-count i);
-          values = bytesOf (reads (tableAt (w .last i) (c .after)) (w .read-start i) (w .read-count i));
-          begins = at (home-length route r s i + 3);
-        })
+        ∙ (λ i. acceptedReading (home-named route r s i) (w .read-start i) (w .read-count i)
+        (bytesOf (reads (tableAt (w .last i) (c .after)) (w .read-start i) (w .read-count i))) (home-length route r s i + 3))
 
     answered : Accomplished net h body c → Answered net route rStart rCount wStart values c
     answered a = record {
@@ -163,14 +169,19 @@ module _ (net : Net) (route : List ℕ) (rStart rCount wStart : ℕ) (values tel
           (subst (λ (n : ℕ). Written n (valuesOf body) (tableAt (destination h) net) table) (w .write-start) (a .written)));
       others = subst (λ (d : ℕ). c .after ≡ withTable d (tableAt d (c .after)) net) (w .last) (a .others);
       answer = answer-read;
+      heard = journey-heard body (replyBody body table) (c .transmissions) (route-full r)
+          (a .passage ∙ ap (λ (l : List ℕ). thereAndBack l body (replyBody body table)) (w .named))
+          (sym (receipt-read (lastTelegram (c .transmissions))) ∙ ap (λ (x : ReplyReading). x .answer .receipt) answer-read);
     }
 
-  rejected : (c : Course) (k : ℕ) → Declined net h body k c → Rejected net route k c
-  rejected c k d = record {
-    count = sym (length-map (c .transmissions) shown) ∙ ap length (d .passage) ∙ length-map (stations (h .block)) (λ (a : ℕ). shows Request a body) ∙ w .many;
-    ending = d .ending;
-    kept = d .kept;
-  }
+  -- no answer: requests are all that is sent
+  no-answer : {e : Ending} {c : Course} (to : List ℕ → List ℕ) → Full (to route) → Unanswered net body (to (stations (h .block))) e c →
+      NoAnswer net (requestBody rStart rCount wStart values) (to route) e c
+  no-answer {e} {c} to f d =
+      let sent = requestBody rStart rCount wStart values in
+      let u : Unanswered net sent (to route) e c =
+      subst (λ (l : List ℕ). Unanswered net l (to route) e c) wrote-body (subst (λ (l : List ℕ). Unanswered net body (to l) e c) (w .named) d) in
+      record { unanswered = u; heard = requests-heard sent (c .transmissions) f (u .passage) }
 
   pub exchange : Exchange net route rStart rCount wStart values telegram
   exchange =
@@ -178,12 +189,20 @@ module _ (net : Net) (route : List ℕ) (rStart rCount wStart : ℕ) (values tel
       record {
         request = w;
         journey = t;
-        answered = λ e. let v = judged ∙ e in answered (t .course) (t .journey) v (t .demand3 .accomplished h (w .order) (w .fresh) all-there v);
-        rejected = λ k e. rejected (t .course) k (t .demand3 .declined h (w .order) (w .fresh) all-there k (judged ∙ e));
+        answered = λ there e.
+            let v = judged ∙ e in
+            answered (t .course) (t .journey) there v (t .demand3 .accomplished h (w .order) (w .fresh) (there-by there) v);
+        rejected = λ there k e.
+            no-answer (λ l. l) (route-full r) (t .demand3 .declined h (w .order) (w .fresh) (there-by there) k (judged ∙ e));
+        unreached = λ some.
+            no-answer (λ (l : List ℕ). upToMissing l net) (full-missing net (route-full r))
+            (t .demand3 .unreached h (w .order) (w .fresh) (there-by some));
       }
 
 pub every-exchange : EveryExchange
-every-exchange net route rStart rCount wStart values out n e fit there =
+unfolding requestTelegram
+every-exchange net route rStart rCount wStart values out n fit e =
     let o = wrote route rStart rCount wStart values out n e in
     exchange net route rStart rCount wStart values (take n (requesting route rStart rCount wStart values out .output)) (o .good)
-    (request-reads-back route rStart rCount wStart values out n e) fit there
+    (request-reads-back route rStart rCount wStart values out n e)
+    (ap (bodyOf (requestHead route)) (o .bytes) ∙ body-behind (requestHead route) (requestBody rStart rCount wStart values)) fit

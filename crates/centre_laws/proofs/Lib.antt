@@ -1,4 +1,5 @@
 pub mod Requests
 pub mod Replies
 pub mod Rolls
+pub mod Heard
 pub mod Exchange

@@ -1,11 +1,10 @@
 -- A reply for the centre, as the centre reads it, and what it accepts.
 -- Assumes nothing.
 use mathlib.Core.Path.{_≡_, refl, sym, _∙_, ap}
-use mathlib.Core.List.{List, []}
+use mathlib.Core.List.{List}
 use Prim.Native.Nat.{ℕ, _+_, _*_, _≤_}
 use lib.ListN.{length}
 use Rattle.mop_block.specs.Block.{stations, first}
-use Rattle.mop_block.specs.Zipper.{zeros}
 use Rattle.mop_header.specs.Header.{Head, headerLength, telegramOf}
 use Rattle.mop_header.specs.Reading.{Reading, maxTelegram, reading}
 use Rattle.mop_header.specs.ReadBack.{InOrder}
@@ -13,7 +12,7 @@ use Rattle.mop_header.specs.declared.Reader.the-variants.{Centre}
 use Rattle.mop_header.proofs.ReadBack.{reads-back, is-written}
 use Rattle.mop_body.specs.Body.{readCount, replyWith}
 use Rattle.mop_body.proofs.Bodies.{start-repeated, count-repeated, bytes-behind, length-reply-with}
-use Rattle.mop_centre.specs.Reply.{Receipt, told, at, anywhere, accepted, notMine, refuses, judgedReply, replyReceipt, routePlaces, readOut, unread, opened, replyReading}
+use Rattle.mop_centre.specs.Reply.{Receipt, accepted, notMine, refuses, judgedReply, replyReceipt, acceptedReading, readOut, unread, opened, replyReading}
 use Rattle.mop_centre.proofs.Replies.{receipt-by, for-centre, right-length, accepted-passed, reply-read}
 use Rattle.centre_laws.specs.ReadBack.{ReplyReadsBack, AcceptedIsReply, OthersTellNothing}
 
@@ -32,15 +31,11 @@ module _ (h : Head) (body : List ℕ) (o : InOrder Centre h) (home : first (h .b
       reply-read (telegramOf h body) (sym (ap (λ (r : Reading). r .header) (back .0))) taken ∙ ap (readOut h) (back .1)
 
 pub reply-reads-back : ReplyReadsBack
-unfolding readOut routePlaces
+unfolding readOut
 reply-reads-back h body values o home many short =
     written-read h (replyWith body values) o home short
     (length-reply-with body values ∙ ap (λ (n : ℕ). 3 + 2 * n) (many ∙ sym (count-repeated body values)))
-    ∙ (λ i. record {
-      answer = told accepted (routePlaces (stations (h .block))) (start-repeated body values i) (count-repeated body values i);
-      values = bytes-behind body values i;
-      begins = at (headerLength h + 3);
-    })
+    ∙ (λ i. acceptedReading (stations (h .block)) (start-repeated body values i) (count-repeated body values i) (bytes-behind body values i) (headerLength h + 3))
 
 -- what is accepted
 receipt-told : (r : Receipt) (h : Head) (telegram : List ℕ) → opened r h telegram .answer .receipt ≡ r
@@ -49,18 +44,20 @@ receipt-told accepted h telegram = refl
 receipt-told notMine h telegram = refl
 receipt-told (refuses k) h telegram = refl
 
-pub accepted-is-reply : AcceptedIsReply
+pub receipt-read : (telegram : List ℕ) → replyReading telegram .answer .receipt ≡ replyReceipt telegram
 unfolding replyReading
+receipt-read telegram = receipt-told (replyReceipt telegram) (reading Centre telegram .header) telegram
+
+pub accepted-is-reply : AcceptedIsReply
 accepted-is-reply telegram e =
     let h = reading Centre telegram .header in
-    let a = sym (receipt-told (replyReceipt telegram) h telegram) ∙ e in
+    let a = sym (receipt-read telegram) ∙ e in
     let p = accepted-passed telegram a in
-    let w = is-written Centre telegram h (p .order) in
-    (h, record { order = w .order; for-centre = p .mine; whole = w .whole; long = p .long; short = w .short; read = reply-read telegram refl a })
+    (h, record { well = is-written Centre telegram h (p .order); for-centre = p .mine; long = p .long; read = reply-read telegram refl a })
 
 -- and what is not
 others-tell : (r : Receipt) (h : Head) (telegram : List ℕ) → (opened r h telegram .answer .receipt ≡ accepted → ⊥) →
-    opened r h telegram ≡ record { answer = told (opened r h telegram .answer .receipt) (zeros 31) 0 0; values = []; begins = anywhere }
+    opened r h telegram ≡ unread (opened r h telegram .answer .receipt)
 unfolding opened readOut unread
 others-tell accepted h telegram n = absurd (n refl)
 others-tell notMine h telegram n = refl

@@ -29,12 +29,12 @@ use Rattle.mop_header.proofs.Writing.{length-telegram}
 use Rattle.mop_body.specs.Body.{readStart, readCount, writeStart, writeCount, valuesOf, requestBody}
 use Rattle.mop_body.proofs.Bodies.{read-start-back, read-count-back, write-start-back, write-count-back, values-back, length-request-body}
 use Rattle.mop_centre.specs.Request.{goodRoute, requestHead, requestTelegram, maxRun, requesting}
-use Rattle.mop_centre.proofs.Routes.{Route, route-parts, by-addresses, standard-head, extended-head}
+use Rattle.mop_centre.proofs.Routes.{Route, route-parts, standard-head, extended-head}
 use Rattle.mop_centre.proofs.Requests.{request-fitted}
 use Rattle.base.proofs.Filling.{fitted-room}
 use Rattle.journey.specs.Terms.{Fresh}
 use Rattle.journey.proofs.Ring.{lastOf, last-append, last-at}
-use Rattle.centre_laws.specs.ReadBack.{routeEnd, ReadsAs, RequestReadsBack, EveryRequestFits}
+use Rattle.centre_laws.specs.ReadBack.{routeEnd, ReadsAs, RequestReadsBack, maxRequest, EveryRequestFits}
 
 -- the header of a route: its stations ahead, 00s, and nothing passed yet
 pub record Shape (route : List ℕ) : Type 0 where
@@ -152,7 +152,7 @@ route-order route r =
 
 -- the telegram is read as what was asked for
 module _ (route : List ℕ) (rStart rCount wStart : ℕ) (values : List ℕ) (r : Route route) where
-  pub request-most : length values ≤ maxRun → length (requestTelegram route rStart rCount wStart values) ≤ 555
+  pub request-most : length values ≤ maxRun → length (requestTelegram route rStart rCount wStart values) ≤ maxRequest
   unfolding requestTelegram
   request-most few =
       let body = requestBody rStart rCount wStart values in
@@ -193,9 +193,7 @@ request-reads-back route rStart rCount wStart values out n e =
     subst (ReadsAs route rStart rCount wStart values) (sym (w .bytes)) (request-read route rStart rCount wStart values (w .good) (w .few-written))
 
 pub every-request-fits : EveryRequestFits
-every-request-fits route rStart rCount wStart values out some most distinct few-read few-written room =
-    let r : Route route = record { some = some; most = most; distinct = distinct } in
+every-request-fits route rStart rCount wStart values out good few-read few-written room =
     let telegram = requestTelegram route rStart rCount wStart values in
-    let good = by-addresses route some most ∙ distinct in
-    let fits : length telegram ≤ length out = omega (arith, request-most route rStart rCount wStart values r few-written) in
+    let fits : length telegram ≤ length out = omega (arith, request-most route rStart rCount wStart values (route-parts route good) few-written) in
     (length telegram, ap (λ (f : Filling). f .given) (request-fitted route rStart rCount wStart values out good few-read few-written ∙ fitted-room telegram out fits))

@@ -41,7 +41,7 @@ unfolding lastTelegram
 last-home f zero b = refl
 last-home f (suc k) b = last-home f k (rollRight b)
 
-last-behind : (xs : List (List ℕ)) (y : List ℕ) (ys : List (List ℕ)) → lastTelegram (xs ++ (y ∷ ys)) ≡ lastTelegram (y ∷ ys)
+pub last-behind : (xs : List (List ℕ)) (y : List ℕ) (ys : List (List ℕ)) → lastTelegram (xs ++ (y ∷ ys)) ≡ lastTelegram (y ∷ ys)
 unfolding lastTelegram
 last-behind [] y ys = refl
 last-behind (x ∷ []) y ys = refl

@@ -3,19 +3,18 @@
 use Prim.Native.Nat.{ℕ, _+_, _-_, _*_, _≤_}
 use mathlib.Core.Path.{_≡_}
 use mathlib.Core.Bool.{true}
-use mathlib.Core.List.{List, [], _++_}
+use mathlib.Core.List.{List}
 use lib.ListN.{length, getD, take}
 use Rattle.base.specs.Words.{bytesOf}
 use Rattle.base.specs.Filling.{filled}
-use Rattle.mop_block.specs.Block.{distinctAddresses, stations, first}
-use Rattle.mop_block.specs.Zipper.{zeros}
+use Rattle.mop_block.specs.Block.{stations, first}
 use Rattle.mop_header.specs.Header.{Head, headerLength, telegramOf, bodyOf}
 use Rattle.mop_header.specs.Reading.{sound, maxTelegram, reading}
-use Rattle.mop_header.specs.ReadBack.{InOrder}
+use Rattle.mop_header.specs.ReadBack.{InOrder, ReadWell}
 use Rattle.mop_header.specs.declared.Reader.the-variants.{Station, Centre}
 use Rattle.mop_body.specs.Body.{readStart, readCount, writeStart, writeCount, valuesOf, replyWith}
-use Rattle.mop_centre.specs.Request.{requestHead, requesting}
-use Rattle.mop_centre.specs.Reply.{accepted, told, at, anywhere, ReplyReading, readOut, replyReading}
+use Rattle.mop_centre.specs.Request.{goodRoute, requestHead, maxRun, requesting}
+use Rattle.mop_centre.specs.Reply.{accepted, acceptedReading, readOut, unread, replyReading}
 use Rattle.journey.specs.Terms.{m, Fresh, destination}
 
 -- the destination of a route: its last station
@@ -47,43 +46,39 @@ RequestReadsBack =
     requesting route rStart rCount wStart values out .given ≡ filled n →
     ReadsAs route rStart rCount wStart values (take n (requesting route rStart rCount wStart values out .output))
 
--- and no good call is refused: with 555 places there is room for every request
+-- the most bytes of a request: a header of 39, 6, and 510 for 255 values
+abbrev pub maxRequest : ℕ
+maxRequest = 555
+
+-- and no good call is refused: with so many places there is room for every request
 abbrev pub EveryRequestFits : Type 0
 EveryRequestFits =
     (route : List ℕ) (rStart rCount wStart : ℕ) (values out : List ℕ) →
-    1 ≤ length route → length route ≤ 31 → distinctAddresses route ≡ true → rCount ≤ 255 → length values ≤ 255 → 555 ≤ length out →
+    goodRoute route ≡ true → rCount ≤ maxRun → length values ≤ maxRun → maxRequest ≤ length out →
     (n : ℕ) × (requesting route rStart rCount wStart values out .given ≡ filled n)
 
--- what the centre is given of a reply with this header that repeats the read start and count of a request's body, and has these
--- values: the stations of its block in 31 places, the run, and the bytes of the values
-abbrev pub replyTo : Head → List ℕ → List ℕ → ReplyReading
-replyTo h body values = record {
-  answer = told accepted (stations (h .block) ++ zeros (31 - length (stations (h .block)))) (readStart body) (readCount body);
-  values = bytesOf values;
-  begins = at (headerLength h + 3);
-}
-
--- a reply with a header in order, a 00 first and as many values as its count says is read so
+-- a reply with a header in order and a 00 first, which repeats the read start and count of a request's body and has as many values
+-- as that count says: the centre is given its stations, the run, and the bytes of the values
 abbrev pub ReplyReadsBack : Type 0
 ReplyReadsBack =
     (h : Head) (body values : List ℕ) → InOrder Centre h → first (h .block) ≡ 0 → length values ≡ readCount body →
     length (telegramOf h (replyWith body values)) ≤ maxTelegram →
-    replyReading (telegramOf h (replyWith body values)) ≡ replyTo h body values
+    replyReading (telegramOf h (replyWith body values))
+    ≡ acceptedReading (stations (h .block)) (readStart body) (readCount body) (bytesOf values) (headerLength h + 3)
 
--- and what the centre accepts is a reply for it: a header in order with a 00 first, and a body as long as its count says
+-- and what the centre accepts is a reply for the centre: a telegram that reads well, with a 00 first and a body as long as its count
+-- says
 pub record IsReply (telegram : List ℕ) (h : Head) : Type 0 where
-  pub order : InOrder Centre h
+  pub well : ReadWell Centre telegram h
   pub for-centre : first (h .block) ≡ 0
-  pub whole : telegramOf h (bodyOf h telegram) ≡ telegram
   pub long : length (bodyOf h telegram) ≡ 3 + 2 * readCount (bodyOf h telegram)
-  pub short : length telegram ≤ maxTelegram
   pub read : replyReading telegram ≡ readOut h (bodyOf h telegram)
 
 abbrev pub AcceptedIsReply : Type 0
 AcceptedIsReply = (telegram : List ℕ) → replyReading telegram .answer .receipt ≡ accepted → (h : Head) × IsReply telegram h
 
--- of any other telegram the verdict is all that is told: the route is 31 zeros, start and count are 0, and the stretch is empty
+-- of any other telegram the verdict is all that is told
 abbrev pub OthersTellNothing : Type 0
 OthersTellNothing =
     (telegram : List ℕ) → (replyReading telegram .answer .receipt ≡ accepted → ⊥) →
-    replyReading telegram ≡ record { answer = told (replyReading telegram .answer .receipt) (zeros 31) 0 0; values = []; begins = anywhere }
+    replyReading telegram ≡ unread (replyReading telegram .answer .receipt)

@@ -29,7 +29,7 @@ use Rattle.journey.proofs.Ring.{lastOf, last-at}
 use Rattle.journey.proofs.Telegrams.{telegramFor}
 use Rattle.journey.proofs.Passage.{Fulfilled}
 
-length-tail : (l : List ℕ) → length (tail l) ≡ length l - 1
+pub length-tail : (l : List ℕ) → length (tail l) ≡ length l - 1
 length-tail [] = refl
 length-tail (x ∷ l) = omega arith
 

@@ -11,7 +11,7 @@ use Rattle.base.specs.Choice.{pick}
 use Rattle.base.proofs.Choice.{pick-either}
 use Rattle.registers.specs.Rows.{tableLength}
 use Rattle.mop_block.specs.Block.{isAddress, has, distinctAddresses}
-use Rattle.journey.specs.Net.{NetStation, Net, addressesOf, rightTables, goodNet, isThere, allThere, tableAt, withTable}
+use Rattle.journey.specs.Net.{NetStation, Net, addressesOf, rightTables, goodNet, isThere, allThere, upToMissing, tableAt, withTable}
 
 -- the first station of a net with another table
 abbrev given : NetStation → List ℕ → NetStation
@@ -119,7 +119,11 @@ pub good-address : (a : ℕ) (net : Net) → goodNet net ≡ true → isThere a 
 unfolding isThere
 good-address a net g h = distinct-address a (addressesOf net) (good-parts net g .0) h
 
--- stations that are all there: the first one and the others
+-- stations that are all there: none, and the first one and the others
+pub all-none : (net : Net) → allThere [] net ≡ true
+unfolding allThere
+all-none net = refl
+
 module _ (a : ℕ) (rest : List ℕ) (net : Net) where
   pub there-parts : allThere (a ∷ rest) net ≡ true → (isThere a net ≡ true) × (allThere rest net ≡ true)
   unfolding allThere
@@ -131,3 +135,17 @@ module _ (a : ℕ) (rest : List ℕ) (net : Net) where
 
   pub not-there : isThere a net ≡ false → allThere (a ∷ rest) net ≡ true → ⊥
   not-there e h = false≢true (sym e ∙ there-parts h .0)
+
+  -- the first that is not: this one, or one behind it
+  pub missing-first : isThere a net ≡ false → upToMissing (a ∷ rest) net ≡ a ∷ []
+  unfolding upToMissing
+  missing-first e = rw e
+
+  module _ (e : isThere a net ≡ true) where
+    pub missing-behind : upToMissing (a ∷ rest) net ≡ a ∷ upToMissing rest net
+    unfolding upToMissing
+    missing-behind = rw e
+
+    pub not-all-behind : allThere (a ∷ rest) net ≡ false → allThere rest net ≡ false
+    unfolding allThere
+    not-all-behind h = rw e at h

@@ -2,7 +2,7 @@
 -- Assumes nothing.
 use mathlib.Core.Path.{_≡_, refl, sym, _∙_, ap, subst}
 use mathlib.Core.Logic.{_⊎_, inl, inr}
-use mathlib.Core.Bool.{Bool, true, false}
+use mathlib.Core.Bool.{Bool, true, false, false≢true}
 use mathlib.Core.List.{List, [], _∷_, _++_, map, tail, reverse, reverseAux}
 use Prim.Native.Nat.{ℕ, suc, _+_, _*_, _≤_}
 use native.Mathlib.Omega.{arith}
@@ -18,11 +18,12 @@ use Rattle.mop_station.specs.Body.{Acceptance, accepts, rejects, judgedBody, af
 use Rattle.mop_header.proofs.Lengths.{headerRoom}
 use Rattle.mop_station.proofs.Bodies.{rejected-number}
 use Rattle.mop_station.proofs.Answers.{length-after, reply-bound}
-use Rattle.journey.specs.Net.{Net, goodNet, isThere, allThere, tableAt, withTable}
+use Rattle.journey.specs.Net.{Net, goodNet, isThere, allThere, upToMissing, tableAt, withTable}
 use Rattle.journey.specs.Journey.{atZero, atNobody, refusedWith, Course, unheard, refusal, onward, callOutput, Journey}
 use Rattle.journey.specs.Terms.{shows, shown, allOrdinary, allFine}
+use Rattle.journey.specs.Demand3.{Unanswered}
 use Rattle.journey.specs.Transmissions.{outward, relayedBlock, homeward}
-use Rattle.journey.proofs.Net.{table-same, all-there-with, good-with, good-table, there-parts, there-both, not-there}
+use Rattle.journey.proofs.Net.{table-same, all-none, all-there-with, good-with, good-table, there-parts, there-both, not-there, missing-first, missing-behind, not-all-behind}
 use Rattle.journey.proofs.Ring.{lastOf}
 use Rattle.journey.proofs.Telegrams.{telegramFor, Faultless, still-fine, shown-as, reply-short}
 use Rattle.journey.proofs.Steps.{stop-nobody, hop-request, hop-accepted, stop-rejected}
@@ -52,19 +53,14 @@ pub record Carries (net : Net) (a : ℕ) (body : List ℕ) (after : Net) : Type 
   pub accepted : judgedBody body ≡ accepts
   pub is : after ≡ withTable a (afterWrites body (tableAt a net)) net
 
--- a journey out on which every station is there and the destination refuses the body
-pub record Stopped (net : Net) (body ahead : List ℕ) (k : ℕ) (d : Course) : Type 0 where
-  pub passage : map shown (d .transmissions) ≡ map (λ (a : ℕ). shows Request a body) ahead
-  pub ending : d .ending ≡ refusedWith k
-  pub kept : d .after ≡ net
-
 -- a request's journey, out along the stations ahead and home
 pub record Out (net : Net) (c : ℕ) (form : Form) (b body ahead back : List ℕ) : Type 0 where
   pub course : Course
   pub journey : Journey net (telegramFor Request c form b body) course
   pub most : length (course .transmissions) ≤ 2 * length ahead + length back
   pub changes : (course .after ≡ net) ⊎ Carries net (lastOf ahead) body (course .after)
-  pub stopped : allThere ahead net ≡ true → (k : ℕ) → judgedBody body ≡ rejects k → Stopped net body ahead k course
+  pub stopped : allThere ahead net ≡ true → (k : ℕ) → judgedBody body ≡ rejects k → Unanswered net body ahead (refusedWith k) course
+  pub unreached : allThere ahead net ≡ false → Unanswered net body (upToMissing ahead net) atNobody course
   pub fine : allFine (course .transmissions) ≡ true
   pub plain : allOrdinary (course .answers) ≡ true
   pub refused-keeps : (k : ℕ) → course .ending ≡ refusedWith k → course .after ≡ net
@@ -104,6 +100,12 @@ module _ (out : List ℕ) (room : callOutput ≤ length out) (form : Form) (z : 
     plain = refl;
     refused-keeps = λ k e. refl;
     stopped = λ all k verdict. absurd (not-there (suc p) ahead net e all);
+    unreached = λ some. record {
+      passage = one-more (shown-as Request c w (first-ahead p ahead z (reverse back))) refl
+          ∙ ap (map (λ (a : ℕ). shows Request a body)) (sym (missing-first (suc p) ahead net e));
+      ending = refl;
+      kept = refl;
+    };
     whole = λ all passed verdict. absurd (not-there (suc p) ahead net e all);
   }
 
@@ -112,6 +114,9 @@ module _ (out : List ℕ) (room : callOutput ≤ length out) (form : Form) (z : 
       (w : Faultless form (spread (suc p ∷ []) z (reverse back)) body) (there : isThere (suc p) net ≡ true) where
     mine : first (spread (suc p ∷ []) z (reverse back)) ≡ suc p
     mine = first-ahead p [] z (reverse back)
+
+    nobody-missing : {A : Type 0} → allThere (suc p ∷ []) net ≡ false → A
+    nobody-missing some = absurd (false≢true (sym some ∙ there-both (suc p) [] net there (all-none net)))
 
     rejected : (k : ℕ) → judgedBody body ≡ rejects k → Out net c form (spread (suc p ∷ []) z (reverse back)) body (suc p ∷ []) back
     rejected k verdict = record {
@@ -127,6 +132,7 @@ module _ (out : List ℕ) (room : callOutput ≤ length out) (form : Form) (z : 
         ending = same-ending verdict other;
         kept = refl;
       };
+      unreached = nobody-missing;
       whole = λ all passed taken. absurd (rejects-accepts verdict taken);
     }
 
@@ -150,6 +156,7 @@ module _ (out : List ℕ) (room : callOutput ≤ length out) (form : Form) (z : 
           most = most-end (length (r .course .transmissions)) (length back) (r .most);
           changes = inr (record { there = there; accepted = verdict; is = r .kept });
           stopped = λ all k other. absurd (rejects-accepts other verdict);
+          unreached = nobody-missing;
           fine = still-fine Request c w (r .course .transmissions) (r .fine);
           plain = r .plain;
           refused-keeps = λ k e. absurd (r .taken k e);
@@ -188,6 +195,14 @@ module _ (out : List ℕ) (room : callOutput ≤ length out) (form : Form) (z : 
         stopped = λ all k verdict.
             let x = r .stopped (there-parts (suc p) (suc q ∷ ahead) net all .1) k verdict in
             record { passage = one-more (shown-as Request c w mine) (x .passage); ending = x .ending; kept = x .kept };
+        unreached = λ some.
+            let x = r .unreached (not-all-behind (suc p) (suc q ∷ ahead) net there some) in
+            record {
+              passage = one-more (shown-as Request c w mine) (x .passage)
+                  ∙ ap (map (λ (a : ℕ). shows Request a body)) (sym (missing-behind (suc p) (suc q ∷ ahead) net there));
+              ending = x .ending;
+              kept = x .kept;
+            };
         fine = still-fine Request c w (r .course .transmissions) (r .fine);
         plain = r .plain;
         refused-keeps = r .refused-keeps;

@@ -20,21 +20,25 @@ use Rattle.mop_header.specs.declared.Reader.the-variants.{Station}
 use Rattle.mop_header.proofs.Marks.{agrees-remarked}
 use Rattle.mop_header.proofs.ReadBack.{is-written}
 use Rattle.mop_station.specs.Body.{accepts, rejects, judgedBody}
-use Rattle.journey.specs.Net.{Net, goodNet, isThere, allThere}
+use Rattle.journey.specs.Net.{Net, goodNet, isThere, allThere, upToMissing}
 use Rattle.journey.specs.Journey.{Ending, atZero, atNobody, refusedWith, Course, unheard, onward, callOutput, Journey}
 use Rattle.journey.specs.Terms.{m, Fresh, beforeZeros, allOrdinary, allFine}
+use Rattle.journey.specs.Demand3.{Unanswered}
+use Rattle.journey.proofs.Net.{all-none}
 use Rattle.journey.proofs.Ring.{last-at, before-zeros, none-passed}
 use Rattle.journey.proofs.Telegrams.{telegramFor, length-read, Faultless, reads-well, still-fine, first-is}
 use Rattle.journey.proofs.Steps.{ends-zero, stop-nobody, hop-reply}
 use Rattle.journey.proofs.Positions.{first-ahead, length-spread}
 use Rattle.journey.proofs.Homeward.{home}
-use Rattle.journey.proofs.Passage.{Fulfilled, Carries, Stopped, Out, requested}
+use Rattle.journey.proofs.Passage.{Fulfilled, Carries, requested}
 
 -- what holds of the journey of a telegram with this header and body
 pub record Ran (net : Net) (h : Head) (body : List ℕ) (d : Course) : Type 0 where
   pub most : 1 ≤ m h → length (d .transmissions) ≤ 2 * m h
   pub changes : (d .after ≡ net) ⊎ ((h .function ≡ Request) × Carries net (beforeZeros (h .block)) body (d .after))
-  pub stopped : Fresh h → allThere (stations (h .block)) net ≡ true → (k : ℕ) → judgedBody body ≡ rejects k → Stopped net body (stations (h .block)) k d
+  pub stopped : Fresh h → allThere (stations (h .block)) net ≡ true → (k : ℕ) → judgedBody body ≡ rejects k →
+      Unanswered net body (stations (h .block)) (refusedWith k) d
+  pub unreached : Fresh h → allThere (stations (h .block)) net ≡ false → Unanswered net body (upToMissing (stations (h .block)) net) atNobody d
   pub fine : allFine (d .transmissions) ≡ true
   pub plain : allOrdinary (d .answers) ≡ true
   pub refused-keeps : (k : ℕ) → d .ending ≡ refusedWith k → d .after ≡ net
@@ -68,10 +72,6 @@ named-count p {ahead} {back} z f g = ap length (stations-spread z (cons {a = p} 
 reply-request : Reply ≡ Request → ⊥
 reply-request e = let x : _≡_ {A = ℕ} 0 1 = cc in omega arith
 
-all-none : (net : Net) → allThere [] net ≡ true
-unfolding allThere
-all-none net = refl
-
 suc-zero : {n : ℕ} → suc n ≡ 0 → ⊥
 suc-zero e = omega arith
 
@@ -84,6 +84,7 @@ ran-alone net h body tg e well stale = record {
   plain = refl;
   refused-keeps = λ k refusal. refl;
   stopped = λ fresh. absurd (stale fresh);
+  unreached = λ fresh. absurd (stale fresh);
   fresh = λ fresh. absurd (stale fresh);
 }
 
@@ -91,30 +92,16 @@ by-request : {A B : Type 0} → A ⊎ B → A ⊎ ((Request ≡ Request) × B)
 by-request (inl x) = inl x
 by-request (inr x) = inr (refl, x)
 
--- of a fresh request nothing is passed yet
-module _ (net : Net) (c : ℕ) (form : Form) (body : List ℕ) (p z : ℕ) {ahead : List ℕ} (f : Full ahead) where
-  fresh-out : {back : List ℕ} → Full back → (let b = spread (suc p ∷ ahead) z (reverse back) in
-      (o : Out net c form b body (suc p ∷ ahead) back) → Fresh (head Request c form b) → allThere (stations b) net ≡ true → judgedBody body ≡ accepts →
-      Fulfilled net c form b body (stations b) [] (o .course))
-  fresh-out nil o fresh =
-      subst (λ (l : List ℕ). allThere l net ≡ true → judgedBody body ≡ accepts → Fulfilled net c form (spread (suc p ∷ ahead) z []) body l [] (o .course))
-      (sym (stations-spread z (cons {a = p} f) nil ∙ append-nil (suc p ∷ ahead)))
-      (λ all verdict. o .whole all (all-none net) verdict)
-  fresh-out (cons {a = a} {xs = back} g) o fresh =
-      let b = spread (suc p ∷ ahead) z (reverse (suc a ∷ back)) in
-      let none : reverse (suc a ∷ back) ≡ [] = none-passed (suc p ∷ ahead) z (full-reverse (cons {a = a} g)) (sym (last-at b) ∙ fresh .last-zero) in
-      absurd (suc-zero (sym (length-reverse (suc a ∷ back)) ∙ ap length none))
-
-  fresh-stopped : {back : List ℕ} → Full back → (let b = spread (suc p ∷ ahead) z (reverse back) in
-      (o : Out net c form b body (suc p ∷ ahead) back) → Fresh (head Request c form b) → allThere (stations b) net ≡ true →
-      (k : ℕ) → judgedBody body ≡ rejects k → Stopped net body (stations b) k (o .course))
-  fresh-stopped nil o fresh =
-      subst (λ (l : List ℕ). allThere l net ≡ true → (k : ℕ) → judgedBody body ≡ rejects k → Stopped net body l k (o .course))
-      (sym (stations-spread z (cons {a = p} f) nil ∙ append-nil (suc p ∷ ahead))) (o .stopped)
-  fresh-stopped (cons {a = a} {xs = back} g) o fresh =
-      let b = spread (suc p ∷ ahead) z (reverse (suc a ∷ back)) in
-      let none : reverse (suc a ∷ back) ≡ [] = none-passed (suc p ∷ ahead) z (full-reverse (cons {a = a} g)) (sym (last-at b) ∙ fresh .last-zero) in
-      absurd (suc-zero (sym (length-reverse (suc a ∷ back)) ∙ ap length none))
+-- of a fresh request nothing is passed yet: the stations ahead are those that its block names
+of-fresh : (holds : List ℕ → List ℕ → Type 0) (c : ℕ) (form : Form) (p z : ℕ) {ahead back : List ℕ} → Full ahead → Full back →
+    Fresh (head Request c form (spread (suc p ∷ ahead) z (reverse back))) → holds (suc p ∷ ahead) back →
+    holds (stations (spread (suc p ∷ ahead) z (reverse back))) []
+of-fresh holds c form p z {ahead} f nil fresh x =
+    subst (λ (l : List ℕ). holds l []) (sym (stations-spread z (cons {a = p} f) nil ∙ append-nil (suc p ∷ ahead))) x
+of-fresh holds c form p z {ahead} f (cons {a = a} {xs = back} g) fresh x =
+    let b = spread (suc p ∷ ahead) z (reverse (suc a ∷ back)) in
+    let none : reverse (suc a ∷ back) ≡ [] = none-passed (suc p ∷ ahead) z (full-reverse (cons {a = a} g)) (sym (last-at b) ∙ fresh .last-zero) in
+    absurd (suc-zero (sym (length-reverse (suc a ∷ back)) ∙ ap length none))
 
 module _ (out : List ℕ) (room : callOutput ≤ length out) (net : Net) (fit : goodNet net ≡ true) (c : ℕ) (form : Form) (body : List ℕ) where
   -- with a station first
@@ -146,6 +133,7 @@ module _ (out : List ℕ) (room : callOutput ≤ length out) (net : Net) (fit : 
             plain = r .plain;
             refused-keeps = λ k e. r .kept;
             stopped = λ fresh. absurd (reply-request (fresh .request));
+            unreached = λ fresh. absurd (reply-request (fresh .request));
             fresh = λ fresh. absurd (reply-request (fresh .request));
           };
         }
@@ -163,11 +151,21 @@ module _ (out : List ℕ) (room : callOutput ≤ length out) (net : Net) (fit : 
                 request-most (length (o .course .transmissions)) (length ahead) (length back) (length (stations b)) (named-count p z f g) (o .most);
             changes = by-request (subst (λ (a : ℕ). (o .course .after ≡ net) ⊎ Carries net a body (o .course .after))
                 (sym (before-zeros p z f (full-reverse g))) (o .changes));
-            stopped = fresh-stopped net c form body p z f g o;
+            stopped = λ fresh.
+                of-fresh
+                (λ (l passed : List ℕ). allThere l net ≡ true → (k : ℕ) → judgedBody body ≡ rejects k → Unanswered net body l (refusedWith k) (o .course))
+                c form p z f g fresh (o .stopped);
+            unreached = λ fresh.
+                of-fresh (λ (l passed : List ℕ). allThere l net ≡ false → Unanswered net body (upToMissing l net) atNobody (o .course)) c form p z f g fresh
+                (o .unreached);
             fine = o .fine;
             plain = o .plain;
             refused-keeps = o .refused-keeps;
-            fresh = fresh-out net c form body p z f g o;
+            fresh = λ fresh all.
+                of-fresh
+                (λ (l passed : List ℕ). allThere l net ≡ true → allThere passed net ≡ true → judgedBody body ≡ accepts →
+                Fulfilled net c form b body l passed (o .course))
+                c form p z f g fresh (o .whole) all (all-none net);
           };
         }
 

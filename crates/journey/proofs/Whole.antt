@@ -85,8 +85,8 @@ module _ (net : Net) (tg : List ℕ) (fit : goodNet net ≡ true) where
     refused-by = λ h order k e. given-by j (ran j h order .fine) k e;
     accomplished = λ h order fresh all verdict.
         fulfilled net h (bodyOf h tg) c (ran j h order .fresh fresh all verdict) fit (some-named (h .block) (fresh .first-named)) all verdict;
-    declined = λ h order fresh all k verdict.
-        let x = ran j h order .stopped fresh all k verdict in record { passage = x .passage; ending = x .ending; kept = x .kept };
+    declined = λ h order fresh all k verdict. ran j h order .stopped fresh all k verdict;
+    unreached = λ h order fresh some. ran j h order .unreached fresh some;
     changes = λ h order. changed net fit h (bodyOf h tg) c (ran j h order .changes);
     others-kept = λ h order a n. other-kept net (c .after) a (beforeZeros (h .block)) (bodyOf h tg) (ran j h order .changes) n;
     same-stations = stations-stay j;

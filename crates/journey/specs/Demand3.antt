@@ -1,6 +1,6 @@
 -- Demand 3: what holds of the whole journey of any telegram over any net.
 -- Assumes nothing.
-use Prim.Native.Nat.{ℕ, suc, _+_, _*_, _≤_}
+use Prim.Native.Nat.{ℕ, suc, _*_, _≤_}
 use mathlib.Core.Path.{_≡_}
 use mathlib.Core.Bool.{true, false}
 use mathlib.Core.Logic.{_⊎_}
@@ -13,10 +13,10 @@ use Rattle.mop_header.specs.Reading.{fault, sound, reading}
 use Rattle.mop_header.specs.declared.Reader.the-variants.{Station}
 use Rattle.mop_station.specs.Body.{accepts, rejects, judgedBody, replyBody}
 use Rattle.mop_station.specs.Station.{Handled, sent, refuses, leaving, handling}
-use Rattle.journey.specs.Net.{Net, addressesOf, goodNet, isThere, allThere, tableAt, withTable}
+use Rattle.journey.specs.Net.{Net, addressesOf, goodNet, isThere, allThere, upToMissing, tableAt, withTable}
 use Rattle.mop_header.specs.declared.Function.the-variants.{Request}
 use Rattle.journey.specs.Terms.{m, Fresh, beforeZeros, shows, shown, thereAndBack, WrittenBy, destination, sentOnly, allOrdinary, allFine}
-use Rattle.journey.specs.Journey.{atZero, atNobody, refusedWith, Course, unheard, Journey}
+use Rattle.journey.specs.Journey.{Ending, atZero, atNobody, refusedWith, Course, unheard, Journey}
 
 -- what the journey of a fresh request comes to whose stations are all there and whose destination accepts the body. The replies
 -- carry the read start and count as they came, and the values that the read run has after the writes
@@ -27,11 +27,11 @@ pub record Accomplished (net : Net) (h : Head) (body : List ℕ) (c : Course) : 
   pub written : WrittenBy body (tableAt (destination h) net) (tableAt (destination h) (c .after))
   pub others : c .after ≡ withTable (destination h) (tableAt (destination h) (c .after)) net
 
--- what the journey of a fresh request comes to whose stations are all there and whose destination refuses the body with k: m
--- requests, the last of them refused, and no table changed
-pub record Declined (net : Net) (h : Head) (body : List ℕ) (k : ℕ) (c : Course) : Type 0 where
-  pub passage : map shown (c .transmissions) ≡ map (λ (a : ℕ). shows Request a body) (stations (h .block))
-  pub ending : c .ending ≡ refusedWith k
+-- what the journey of a fresh request comes to that is not answered: a request to each of these stations, this ending, and no table
+-- changed
+pub record Unanswered (net : Net) (body asked : List ℕ) (e : Ending) (c : Course) : Type 0 where
+  pub passage : map shown (c .transmissions) ≡ map (λ (a : ℕ). shows Request a body) asked
+  pub ending : c .ending ≡ e
   pub kept : c .after ≡ net
 
 -- the one change that a journey can make, fresh or not: of a request that the station before the block's 00s accepts, that
@@ -58,11 +58,14 @@ pub record Demand3 (net : Net) (tg : List ℕ) (c : Course) : Type 0 where
   -- after a refused one none follows: if the station called with transmission i + 1 refuses, there are i + 1 in all
   pub refused-last : (earlier later : List Handled) (k : ℕ) → c .answers ≡ earlier ++ (refuses k ∷ later) →
       length (c .transmissions) ≡ suc (length earlier)
-  -- a fresh request, all m stations there: its destination accepts it, or rejects it with k
+  -- a fresh request, all m stations there: its destination accepts it, or rejects it with k and there are m transmissions. One of
+  -- them not there: the last transmission is the request to the first such
   pub accomplished : (h : Head) → reading Station tg ≡ sound h → Fresh h → allThere (stations (h .block)) net ≡ true →
       judgedBody (bodyOf h tg) ≡ accepts → Accomplished net h (bodyOf h tg) c
   pub declined : (h : Head) → reading Station tg ≡ sound h → Fresh h → allThere (stations (h .block)) net ≡ true →
-      (k : ℕ) → judgedBody (bodyOf h tg) ≡ rejects k → Declined net h (bodyOf h tg) k c
+      (k : ℕ) → judgedBody (bodyOf h tg) ≡ rejects k → Unanswered net (bodyOf h tg) (stations (h .block)) (refusedWith k) c
+  pub unreached : (h : Head) → reading Station tg ≡ sound h → Fresh h → allThere (stations (h .block)) net ≡ false →
+      Unanswered net (bodyOf h tg) (upToMissing (stations (h .block)) net) atNobody c
   -- accepted or not, and whatever the first telegram was, all tables stay except that of the station before the 00s
   pub others-kept : (h : Head) → reading Station tg ≡ sound h → (a : ℕ) → (a ≡ beforeZeros (h .block) → ⊥) →
       tableAt a (c .after) ≡ tableAt a net

@@ -36,6 +36,11 @@ unfoldable pub allThere : List ℕ → Net → Bool
 allThere [] net = true
 allThere (a ∷ rest) net = isThere a net && allThere rest net
 
+-- several addresses up to the first that is nobody's, that one included
+unfoldable pub upToMissing : List ℕ → Net → List ℕ
+upToMissing [] net = []
+upToMissing (a ∷ rest) net = a ∷ pick (isThere a net) (upToMissing rest net) []
+
 -- the table of the station with an address; empty where there is none
 unfoldable pub tableAt : ℕ → Net → List ℕ
 tableAt a [] = []

@@ -72,13 +72,17 @@ pub record ReplyReading : Type 0 where
 unfoldable pub routePlaces : List ℕ → List ℕ
 routePlaces route = route ++ zeros (maxRoute - length route)
 
+-- an accepted reply with these stations, this run, these bytes of values, and the place where they begin
+abbrev pub acceptedReading : List ℕ → ℕ → ℕ → List ℕ → ℕ → ReplyReading
+acceptedReading route start count bytes place = record {
+  answer = told accepted (routePlaces route) start count;
+  values = bytes;
+  begins = at place;
+}
+
 -- an accepted reply, of its header and its body
 unfoldable pub readOut : Head → List ℕ → ReplyReading
-readOut h body = record {
-  answer = told accepted (routePlaces (stations (h .block))) (readStart body) (readCount body);
-  values = valueBytes body;
-  begins = at (headerLength h + 3);
-}
+readOut h body = acceptedReading (stations (h .block)) (readStart body) (readCount body) (valueBytes body) (headerLength h + 3)
 
 -- any other: zeros, and an empty stretch
 unfoldable pub unread : Receipt → ReplyReading
@@ -98,8 +102,8 @@ opened (refuses k) h telegram = unread (refuses k)
 unfoldable pub replyReading : List ℕ → ReplyReading
 replyReading telegram = opened (replyReceipt telegram) (reading Centre telegram .header) telegram
 
--- a slice that is lent from the telegram's own bytes, and begins so many behind the first of them. A pointer says in what memory a
--- slice lies, and how many bytes behind the first one there
+-- a slice that is lent from the telegram's own bytes, and begins so many behind the first of them. A pointer is a block of memory,
+-- and an offset in it in bytes
 abbrev pub LiesAt : RefT (List ℕ) → RefT (List ℕ) → ℕ → Type 0
 LiesAt telegram r place = ptr r ≡ (ptr telegram .0, place + ptr telegram .1)
 

@@ -43,7 +43,7 @@ pub struct ReplyRead {
     pub count: u8,
 }
 
-// Whether a list of addresses is a route.
+// Whether bytes are a route.
 fn is_route(route: &[u8]) -> bool
     ensures { λ r. ⌜ r ≡ goodRoute (now (route .entry)) ⌝ }
 {
