@@ -1,11 +1,11 @@
 -- The table of worked cases, computed.
 -- Assumes nothing.
 use mathlib.Core.Path.{_≡_, refl, sym, _∙_, ap}
-use mathlib.Core.Bool.{true}
+use mathlib.Core.Bool.{true, false}
 use mathlib.Core.List.{List, _++_, append-nil}
 use borrow.Author.Tests.{leb-true}
 use lib.Dec.{leb}
-use lib.ListN.{length, getD, replicate, length-replicate, drop-of-length-le}
+use lib.ListN.{length, getD, take, replicate, length-replicate, drop-of-length-le}
 use Prim.Native.Nat.{ℕ, suc, _-_, _≤_}
 use native.Mathlib.Omega.{arith}
 use Rattle.base.specs.Places.{placed}
@@ -18,18 +18,21 @@ use Rattle.registers.specs.Rows.{tableLength, placeOf, exists, mayWrite, takes,
 use Rattle.registers.specs.Runs.{runExists, runMayWrite, runTakes, writes, reads}
 use Rattle.mop_block.specs.Block.{isAddress, has, distinctAddresses, stations, zeroEnds, around, goodBlock, first, next, rolled, rollLeft, rollRight}
 use Rattle.mop_header.specs.Header.{addressBytes, headerBytes, headerLength, telegramOf, bodyOf, mayBegin, isMark, markByte, markIs, withMark, markAgrees, remarked, rolledLeft, rolledRight, asReply, sentBack}
-use Rattle.mop_header.specs.Reading.{allowed, fine, functionAt, goodFor, judged, standardReading, extendedReading, reading}
+use Rattle.mop_header.specs.Reading.{sound, allowed, fine, functionAt, goodFor, judged, standardReading, extendedReading, reading}
 use Rattle.mop_header.specs.declared.Function.the-variants.{Request}
 use Rattle.mop_header.specs.declared.Reader.the-variants.{Station}
+use Rattle.mop_header.proofs.ReadBack.{reading-fine}
 use Rattle.mop_body.specs.Body.{requestBody, replyWith}
-use Rattle.mop_station.specs.Body.{accepts, judgedRuns, judgedBody, afterWrites, replyBody}
+use Rattle.mop_station.specs.Body.{accepts, rejects, judgedRuns, judgedBody, afterWrites, replyBody}
 use Rattle.mop_station.specs.Station.{sending, relayed, relaying, replied, keptBy, answering, taking, hearing, handling}
 use Rattle.mop_centre.specs.Request.{goodRoute, requestHead, requestTelegram, requesting}
 use Rattle.mop_centre.specs.Reply.{judgedReply, receiving, replyReceipt, routePlaces, readOut, unread, opened, replyReading}
-use Rattle.journey.specs.Net.{rightTables, goodNet, isThere, allThere, tableAt, withTable}
-use Rattle.journey.specs.Journey.{Ending, Course, named, addressee, handler}
+use Rattle.journey.specs.Net.{rightTables, goodNet, isThere, allThere, upToMissing, tableAt, withTable}
+use Rattle.journey.specs.Journey.{Ending, atNobody, refusedWith, Course, named, addressee, handler}
 use Rattle.journey.specs.Bounded.{calling, playing, mostTransmissions}
-use Rattle.journey.proofs.Whole.{plays-the-journey}
+use Rattle.journey.proofs.Whole.{every-journey, plays-the-journey}
+use Rattle.centre_laws.specs.Exchange.{Exchange}
+use Rattle.centre_laws.proofs.Exchange.{every-exchange}
 use Rattle.net.specs.Tables.{netOf, tablesOf, tablesFit, setUp}
 use Rattle.journey.specs.Terms.{lastTelegram}
 use Rattle.net.specs.DryRun.{runOutput, played, leaves, padded, ofCourse, dryRun}
@@ -40,7 +43,7 @@ use Rattle.report.proofs.Journeys.{tells-the-journey}
 use Rattle.net.proofs.Tables.{good-net}
 use Rattle.net.proofs.Outputs.{length-padded}
 use Rattle.net.proofs.Journeys.{runs-the-journey}
-use Rattle.worked_cases.specs.Cases.{factoryTables, factoryNet, Travels, Tells, Accepted, Asked, _also_, none, WorkedCases}
+use Rattle.worked_cases.specs.Cases.{factoryTables, factoryNet, Travels, Tells, Promised, answered, unanswered, Asked, _also_, none, WorkedCases}
 
 -- all of an output that a dry run fills
 padded-alone : (tg : List ℕ) → length tg ≤ runOutput → placed (padded tg) (replicate runOutput 0) ≡ padded tg
@@ -103,29 +106,42 @@ outright-by addresses tg text e = record { tables = factoryTables addresses; tol
 suc-zero : {n : ℕ} → suc n ≡ 0 → ⊥
 suc-zero e = omega arith
 
--- what demand 3 asks of it
+-- what demand 3 promises of it
 promised-by : (addresses tg : List ℕ) →
     (let h = reading Station tg .header in goodNet (factoryNet addresses) ≡ true → reading Station tg .finding ≡ fine → h .function ≡ Request →
     (first (h .block) ≡ 0 → ⊥) → getD (h .block) (length (h .block) - 1) 0 ≡ 0 → allThere (stations (h .block)) (factoryNet addresses) ≡ true →
-    judgedBody (bodyOf h tg) ≡ accepts → Accepted addresses tg)
-promised-by addresses tg net order request named last there verdict = record {
-  net = net;
-  head = reading Station tg .header;
-  order = λ i. record { finding = order i; header = reading Station tg .header };
-  fresh = record { request = request; first-named = named; last-zero = last };
-  there = there;
-  verdict = verdict;
-}
+    judgedBody (bodyOf h tg) ≡ accepts → Promised addresses tg)
+promised-by addresses tg net order request named last there verdict =
+    let h = reading Station tg .header in
+    let read : reading Station tg ≡ sound h = reading-fine Station tg order in
+    let t = every-journey (factoryNet addresses) tg net in
+    record {
+      head = h;
+      order = read;
+      journey = t;
+      accomplished = t .demand3 .accomplished h read (record { request = request; first-named = named; last-zero = last }) there verdict;
+    }
 
-asked-by : (addresses route : List ℕ) (rStart rCount wStart : ℕ) (values : List ℕ) (n : ℕ) →
-    requesting route rStart rCount wStart values (replicate 1024 0) .given ≡ filled n → goodNet (factoryNet addresses) ≡ true →
-    allThere route (factoryNet addresses) ≡ true → judgedRuns rStart rCount wStart (length values) values ≡ accepts →
-    Asked addresses route rStart rCount wStart values n
-asked-by addresses route rStart rCount wStart values n written net there verdict =
-    record { written = written; net = net; there = there; verdict = verdict }
+-- what the exchange promises of a request of the centre
+module _ (addresses route : List ℕ) (rStart rCount wStart : ℕ) (values : List ℕ) (n : ℕ) (net : goodNet (factoryNet addresses) ≡ true)
+    (written : requesting route rStart rCount wStart values (replicate 1024 0) .given ≡ filled n) where
+  exchanged : Exchange (factoryNet addresses) route rStart rCount wStart values (take n (requesting route rStart rCount wStart values (replicate 1024 0) .output))
+  exchanged = every-exchange (factoryNet addresses) route rStart rCount wStart values (replicate 1024 0) n net written
+
+  answered-by : allThere route (factoryNet addresses) ≡ true → judgedRuns rStart rCount wStart (length values) values ≡ accepts →
+      Asked addresses route rStart rCount wStart values n answered
+  answered-by there verdict = record { written = written; exchange = exchanged; outcome = exchanged .answered there verdict }
+
+  rejected-by : allThere route (factoryNet addresses) ≡ true → (k : ℕ) → judgedRuns rStart rCount wStart (length values) values ≡ rejects k →
+      Asked addresses route rStart rCount wStart values n (unanswered route (refusedWith k))
+  rejected-by there k verdict = record { written = written; exchange = exchanged; outcome = exchanged .rejected there k verdict }
+
+  unreached-by : allThere route (factoryNet addresses) ≡ false →
+      Asked addresses route rStart rCount wStart values n (unanswered (upToMissing route (factoryNet addresses)) atNobody)
+  unreached-by some = record { written = written; exchange = exchanged; outcome = exchanged .unreached some }
 
 pub worked-cases : WorkedCases
-unfolding placed fitted wordsOf bytesOf sent doubled xorOver checked checkByte frameOf framing against afterStore byteOf dataOf eventOf insideOf noRoom receiveOf restOf storeOf waitingOf feed tableLength placeOf exists mayWrite takes factory runExists runMayWrite runTakes writes reads isAddress has distinctAddresses stations zeroEnds around goodBlock first next rolled rollLeft rollRight addressBytes headerBytes headerLength telegramOf bodyOf mayBegin isMark markByte markIs withMark markAgrees remarked rolledLeft rolledRight asReply sentBack allowed functionAt goodFor judged standardReading extendedReading reading judgedRuns judgedBody afterWrites replyWith replyBody sending relayed relaying replied keptBy answering taking hearing handling rightTables goodNet isThere allThere tableAt withTable named addressee handler calling playing netOf tablesOf tablesFit setUp lastTelegram padded hexDigit hexBytes decimal line lines sentText endingText closing courseText refusedText outrightText toldOf reporting requestBody goodRoute requestHead requestTelegram requesting judgedReply receiving replyReceipt routePlaces readOut unread opened replyReading
+unfolding placed fitted wordsOf bytesOf sent doubled xorOver checked checkByte frameOf framing against afterStore byteOf dataOf eventOf insideOf noRoom receiveOf restOf storeOf waitingOf feed tableLength placeOf exists mayWrite takes factory runExists runMayWrite runTakes writes reads isAddress has distinctAddresses stations zeroEnds around goodBlock first next rolled rollLeft rollRight addressBytes headerBytes headerLength telegramOf bodyOf mayBegin isMark markByte markIs withMark markAgrees remarked rolledLeft rolledRight asReply sentBack allowed functionAt goodFor judged standardReading extendedReading reading judgedRuns judgedBody afterWrites replyWith replyBody sending relayed relaying replied keptBy answering taking hearing handling rightTables goodNet isThere allThere upToMissing tableAt withTable named addressee handler calling playing netOf tablesOf tablesFit setUp lastTelegram padded hexDigit hexBytes decimal line lines sentText endingText closing courseText refusedText outrightText toldOf reporting requestBody goodRoute requestHead requestTelegram requesting judgedReply receiving replyReceipt routePlaces readOut unread opened replyReading
 worked-cases =
     refl also refl also refl also refl also refl also refl also refl also refl also refl also refl also refl also refl also refl also refl also refl also refl
     also refl also refl also travels-by _ _ refl refl _ _ _ refl refl refl refl
@@ -140,8 +156,10 @@ worked-cases =
     also travels-by _ _ refl refl _ _ _ refl refl refl refl
     also outright-by _ _ _ refl
     also refl also refl also refl also refl also refl also refl also refl also refl also refl also refl
-    also asked-by _ _ _ _ _ _ _ refl refl refl refl
-    also asked-by _ _ _ _ _ _ _ refl refl refl refl
+    also answered-by _ _ _ _ _ _ _ refl refl refl refl
+    also answered-by _ _ _ _ _ _ _ refl refl refl refl
+    also rejected-by _ _ _ _ _ _ _ refl refl refl 8 refl
+    also unreached-by _ _ _ _ _ _ _ refl refl refl
     also refl
     also refl also refl also refl also refl also refl also refl also refl also refl also refl
     also refl

@@ -3,27 +3,27 @@
 use Prim.Native.Nat.{ℕ, zero, suc, _-_}
 use Prim.Native.String.{String}
 use mathlib.Core.Path.{_≡_}
-use mathlib.Core.Bool.{true}
 use mathlib.Core.List.{List, [], _∷_, _++_}
-use lib.ListN.{length, replicate}
+use lib.ListN.{length, take, replicate}
 use Rattle.base.specs.Filling.{filled, denied}
 use Rattle.link_frame.specs.Frame.{framing}
 use Rattle.link_receive.specs.Receive.{Response, nothing, sends, at}
 use Rattle.link_receive.specs.declared.Phase.the-variants.{Rest}
 use Rattle.link_laws.specs.Feeding.{feed}
 use Rattle.registers.specs.Rows.{factory}
-use Rattle.mop_block.specs.Block.{stations}
 use Rattle.mop_header.specs.Header.{Head, bodyOf}
 use Rattle.mop_header.specs.Reading.{sound, reading}
 use Rattle.mop_header.specs.declared.Reader.the-variants.{Station}
-use Rattle.mop_station.specs.Body.{accepts, judgedRuns, judgedBody}
 use Rattle.mop_station.specs.Station.{sent, refuses, leaving, handling}
+use Rattle.mop_body.specs.Body.{requestBody}
 use Rattle.mop_centre.specs.Request.{requesting}
 use Rattle.mop_centre.specs.Reply.{Receipt, accepted, told, anywhere, replyReading}
 use Rattle.mop_centre.specs.Reply as centre
-use Rattle.journey.specs.Net.{Net, goodNet, allThere}
+use Rattle.journey.specs.Net.{Net}
 use Rattle.journey.specs.Journey.{Ending, atZero, atNobody, refusedWith, Course, Journey}
-use Rattle.journey.specs.Terms.{Fresh, lastTelegram}
+use Rattle.journey.specs.Terms.{lastTelegram}
+use Rattle.journey.specs.Demand3.{Accomplished, TheJourney}
+use Rattle.centre_laws.specs.Exchange.{Answered, NoAnswer, Exchange}
 use Rattle.net.specs.Tables.{netOf, tablesOf}
 use Rattle.net.specs.DryRun.{played, leaves, padded, dryRun}
 use Rattle.report.specs.Text.{codes}
@@ -54,21 +54,28 @@ pub record Tells (addresses tg text : List ℕ) : Type 0 where
   pub tables : List ℕ
   pub told : reporting tg addresses (factoryTables addresses) (replicate reportOutput 0) ≡ report.tells text tables (replicate reportOutput 0)
 
--- all that demand 3 asks of a net and a request for the whole way out and back
-pub record Accepted (addresses tg : List ℕ) : Type 0 where
-  pub net : goodNet (factoryNet addresses) ≡ true
+-- the journey of a first telegram, all the way out and back, as demand 3 promises it
+pub record Promised (addresses tg : List ℕ) : Type 0 where
   pub head : Head
   pub order : reading Station tg ≡ sound head
-  pub fresh : Fresh head
-  pub there : allThere (stations (head .block)) (factoryNet addresses) ≡ true
-  pub verdict : judgedBody (bodyOf head tg) ≡ accepts
+  pub journey : TheJourney (factoryNet addresses) tg
+  pub accomplished : Accomplished (factoryNet addresses) head (bodyOf head tg) (journey .course)
 
--- all that the exchange asks of a net, a request that the centre writes into 1,024 places, and its destination
-pub record Asked (addresses route : List ℕ) (rStart rCount wStart : ℕ) (values : List ℕ) (n : ℕ) : Type 0 where
+-- what is to become of a request of the centre: it is answered; or not, with the stations that requests are sent to, and the ending
+pub data Expected : Type 0 where
+  answered : Expected
+  unanswered : List ℕ → Ending → Expected
+
+abbrev pub ComesTo : Expected → Net → List ℕ → ℕ → ℕ → ℕ → List ℕ → Course → Type 0
+ComesTo answered net route rStart rCount wStart values c = Answered net route rStart rCount wStart values c
+ComesTo (unanswered asked e) net route rStart rCount wStart values c = NoAnswer net (requestBody rStart rCount wStart values) asked e c
+
+-- a request of n bytes that the centre writes into 1,024 places, and what the exchange promises of it
+pub record Asked (addresses route : List ℕ) (rStart rCount wStart : ℕ) (values : List ℕ) (n : ℕ) (x : Expected) : Type 0 where
   pub written : requesting route rStart rCount wStart values (replicate 1024 0) .given ≡ filled n
-  pub net : goodNet (factoryNet addresses) ≡ true
-  pub there : allThere route (factoryNet addresses) ≡ true
-  pub verdict : judgedRuns rStart rCount wStart (length values) values ≡ accepts
+  pub exchange : Exchange (factoryNet addresses) route rStart rCount wStart values
+      (take n (requesting route rStart rCount wStart values (replicate 1024 0) .output))
+  pub outcome : ComesTo x (factoryNet addresses) route rStart rCount wStart values (exchange .journey .course)
 
 pub data Case : Type 0 where
   -- data, and its frame
@@ -92,19 +99,20 @@ pub data Case : Type 0 where
   -- a telegram, and what the centre reads in it: route, read start and count, and the bytes of the values; or why it does not take it
   replies : List ℕ → List ℕ → ℕ → ℕ → List ℕ → Case
   noReply : List ℕ → Receipt → Case
-  -- the addresses of stations, a route, read start and count, write start and values, and the length of a request that is answered
-  asks : List ℕ → List ℕ → ℕ → ℕ → ℕ → List ℕ → ℕ → Case
+  -- the addresses of stations, a route, read start and count, write start and values, the length of the request, and what becomes of
+  -- it
+  asks : List ℕ → List ℕ → ℕ → ℕ → ℕ → List ℕ → ℕ → Expected → Case
 
 -- what a case says of the calls; a station has factory values and an output of 1,024 places
 abbrev pub Holds : Case → Type 0
 Holds (frames d f) = framing d (replicate (length f) 0) ≡ record { given = filled (length f); output = f }
 Holds (answers bs rs) = feed (at Rest 0 0) (replicate 1024 0) bs .answers ≡ rs
 Holds (refusedAt own tg k) = handling own factory tg (replicate 1024 0) ≡ leaving (refuses k) factory (replicate 1024 0)
-Holds (sentAt own tg answer after) =
-    handling own factory tg (replicate 1024 0) ≡ leaving (sent (length answer)) after (answer ++ replicate (1024 - length answer) 0)
+Holds (sentAt own tg next after) =
+    handling own factory tg (replicate 1024 0) ≡ leaving (sent (length next)) after (next ++ replicate (1024 - length next) 0)
 Holds (travels addresses tg transmissions e after) = Travels addresses tg transmissions e after
 Holds (tells addresses tg text) = Tells addresses tg (codes text)
-Holds (promised addresses tg) = Accepted addresses tg
+Holds (promised addresses tg) = Promised addresses tg
 Holds (requests route rStart rCount wStart values tg) =
     requesting route rStart rCount wStart values (replicate (length tg) 0 ++ (0x07 ∷ 0x08 ∷ []))
     ≡ record { given = filled (length tg); output = tg ++ (0x07 ∷ 0x08 ∷ []) }
@@ -117,7 +125,7 @@ Holds (replies tg route start count bytes) =
       begins = centre.at (length tg - length bytes);
     }
 Holds (noReply tg r) = replyReading tg ≡ record { answer = told r (replicate 31 0) 0 0; values = []; begins = anywhere }
-Holds (asks addresses route rStart rCount wStart values n) = Asked addresses route rStart rCount wStart values n
+Holds (asks addresses route rStart rCount wStart values n x) = Asked addresses route rStart rCount wStart values n x
 
 -- each case of a list holds
 infixr 5 _also_
@@ -179,7 +187,7 @@ cases =
     ∷ (0xE0 ∷ 0xFF ∷ 0x00 ∷ 0x12 ∷ 0x55 ∷ 0x00 ∷ 0x00 ∷ 0x00 ∷ 0x00 ∷ [])
     ∷ [])
     atZero (factoryTables (0x12 ∷ 0x13 ∷ 0x55 ∷ []))
-    -- besides, ours: an extended route of five stations. It pins the mark, EF on the whole way but for the last telegram
+    -- besides: an extended route of five stations. It pins the mark, EF on the whole way but for the last telegram
     ∷ travels (0x21 ∷ 0x22 ∷ 0x23 ∷ 0x24 ∷ 0x25 ∷ []) (0x60 ∷ 0xFF ∷ 0xEF ∷ 0xEF ∷ 0xEF ∷ 0xEF ∷ 0x06 ∷ 0x21 ∷ 0x22 ∷ 0x23 ∷ 0x24 ∷ 0x25 ∷ 0x00 ∷ 0x03 ∷ 0xBD ∷ 0x02 ∷ 0x03 ∷ 0xBE ∷ 0x01 ∷ 0x00 ∷ 0x2D ∷ [])
     ((0x60 ∷ 0xFF ∷ 0xEF ∷ 0xEF ∷ 0xEF ∷ 0xEF ∷ 0x06 ∷ 0x21 ∷ 0x22 ∷ 0x23 ∷ 0x24 ∷ 0x25 ∷ 0x00 ∷ 0x03 ∷ 0xBD ∷ 0x02 ∷ 0x03 ∷ 0xBE ∷ 0x01 ∷ 0x00 ∷ 0x2D ∷ [])
     ∷ (0x60 ∷ 0xFF ∷ 0xEF ∷ 0xEF ∷ 0xEF ∷ 0xEF ∷ 0x06 ∷ 0x22 ∷ 0x23 ∷ 0x24 ∷ 0x25 ∷ 0x00 ∷ 0x21 ∷ 0x03 ∷ 0xBD ∷ 0x02 ∷ 0x03 ∷ 0xBE ∷ 0x01 ∷ 0x00 ∷ 0x2D ∷ [])
@@ -196,15 +204,15 @@ cases =
     ∷ promised (0x21 ∷ 0x22 ∷ 0x23 ∷ 0x24 ∷ 0x25 ∷ []) (0x60 ∷ 0xFF ∷ 0xEF ∷ 0xEF ∷ 0xEF ∷ 0xEF ∷ 0x06 ∷ 0x21 ∷ 0x22 ∷ 0x23 ∷ 0x24 ∷ 0x25 ∷ 0x00 ∷ 0x03 ∷ 0xBD ∷ 0x02 ∷ 0x03 ∷ 0xBE ∷ 0x01 ∷ 0x00 ∷ 0x2D ∷ [])
     ∷ tells (0x21 ∷ 0x22 ∷ 0x23 ∷ 0x24 ∷ 0x25 ∷ []) (0x60 ∷ 0xFF ∷ 0xEF ∷ 0xEF ∷ 0xEF ∷ 0xEF ∷ 0x06 ∷ 0x21 ∷ 0x22 ∷ 0x23 ∷ 0x24 ∷ 0x25 ∷ 0x00 ∷ 0x03 ∷ 0xBD ∷ 0x02 ∷ 0x03 ∷ 0xBE ∷ 0x01 ∷ 0x00 ∷ 0x2D ∷ [])
     "1 60 21 22 23 24 25 00\n2 60 22 23 24 25 00 21\n3 60 23 24 25 00 21 22\n4 60 24 25 00 21 22 23\n5 60 25 00 21 22 23 24\n6 E0 24 25 00 21 22 23\n7 E0 23 24 25 00 21 22\n8 E0 22 23 24 25 00 21\n9 E0 21 22 23 24 25 00\n10 E0 00 21 22 23 24 25\nsent 10\n"
-    -- besides, ours: the destination refuses two registers read from 953 on, and nothing is changed; the text told of it
+    -- besides: the destination refuses two registers read from 953 on, and nothing is changed; the text told of it
     ∷ travels (0x12 ∷ 0x13 ∷ 0x55 ∷ []) (0x60 ∷ 0xFF ∷ 0x12 ∷ 0x13 ∷ 0x55 ∷ 0x00 ∷ 0x03 ∷ 0xB9 ∷ 0x02 ∷ 0x00 ∷ 0x00 ∷ 0x00 ∷ [])
     ((0x60 ∷ 0xFF ∷ 0x12 ∷ 0x13 ∷ 0x55 ∷ 0x00 ∷ 0x03 ∷ 0xB9 ∷ 0x02 ∷ 0x00 ∷ 0x00 ∷ 0x00 ∷ []) ∷ (0x60 ∷ 0xFF ∷ 0x13 ∷ 0x55 ∷ 0x00 ∷ 0x12 ∷ 0x03 ∷ 0xB9 ∷ 0x02 ∷ 0x00 ∷ 0x00 ∷ 0x00 ∷ []) ∷ (0x60 ∷ 0xFF ∷ 0x55 ∷ 0x00 ∷ 0x12 ∷ 0x13 ∷ 0x03 ∷ 0xB9 ∷ 0x02 ∷ 0x00 ∷ 0x00 ∷ 0x00 ∷ []) ∷ [])
     (refusedWith 8) (factoryTables (0x12 ∷ 0x13 ∷ 0x55 ∷ []))
     ∷ tells (0x12 ∷ 0x13 ∷ 0x55 ∷ []) (0x60 ∷ 0xFF ∷ 0x12 ∷ 0x13 ∷ 0x55 ∷ 0x00 ∷ 0x03 ∷ 0xB9 ∷ 0x02 ∷ 0x00 ∷ 0x00 ∷ 0x00 ∷ [])
     "1 60 12 13 55 00\n2 60 13 55 00 12\n3 60 55 00 12 13\nsent 3 refused 8\n"
-    -- besides, ours: a net without stations
+    -- besides: a net without stations
     ∷ travels [] (0x60 ∷ 0xFF ∷ 0x12 ∷ 0x00 ∷ 0x00 ∷ 0x00 ∷ []) ((0x60 ∷ 0xFF ∷ 0x12 ∷ 0x00 ∷ 0x00 ∷ 0x00 ∷ []) ∷ []) atNobody []
-    -- besides, ours: a telegram that is refused outright
+    -- besides: a telegram that is refused outright
     ∷ tells (0x12 ∷ 0x13 ∷ 0x55 ∷ []) (0x60 ∷ 0xFF ∷ 0x12 ∷ 0x12 ∷ 0x55 ∷ 0x00 ∷ []) "refused 5\n"
     -- the centre writes the requests of the journeys above: over two relays, over one, and by an extended route
     ∷ requests (0x12 ∷ 0x13 ∷ 0x55 ∷ []) 955 1 300 (1 ∷ []) (0x60 ∷ 0xFF ∷ 0x12 ∷ 0x13 ∷ 0x55 ∷ 0x00 ∷ 0x03 ∷ 0xBB ∷ 0x01 ∷ 0x01 ∷ 0x2C ∷ 0x01 ∷ 0x00 ∷ 0x01 ∷ [])
@@ -220,25 +228,28 @@ cases =
     ∷ replies (0xE0 ∷ 0xFF ∷ 0x00 ∷ 0x07 ∷ 0x08 ∷ 0x04 ∷ 0x00 ∷ 0x02 ∷ 0x04 ∷ 0x00 ∷ 0x05 ∷ 0x06 ∷ 0x20 ∷ 0x0A ∷ 0x71 ∷ 0x01 ∷ 0x47 ∷ []) (0x07 ∷ 0x08 ∷ 0x04 ∷ []) 2 4 (0x00 ∷ 0x05 ∷ 0x06 ∷ 0x20 ∷ 0x0A ∷ 0x71 ∷ 0x01 ∷ 0x47 ∷ [])
     ∷ requests (0x04 ∷ []) 906 2 1 (128 ∷ []) (0x60 ∷ 0xFF ∷ 0x04 ∷ 0x00 ∷ 0x00 ∷ 0x00 ∷ 0x03 ∷ 0x8A ∷ 0x02 ∷ 0x00 ∷ 0x01 ∷ 0x01 ∷ 0x00 ∷ 0x80 ∷ [])
     ∷ replies (0xE0 ∷ 0xFF ∷ 0x00 ∷ 0x04 ∷ 0x00 ∷ 0x00 ∷ 0x03 ∷ 0xA4 ∷ 0x02 ∷ 0x11 ∷ 0x00 ∷ 0x01 ∷ 0x00 ∷ []) (0x04 ∷ []) 932 2 (0x11 ∷ 0x00 ∷ 0x01 ∷ 0x00 ∷ [])
-    -- the exchange promises the journeys over two relays, and by an extended route
-    ∷ asks (0x12 ∷ 0x13 ∷ 0x55 ∷ []) (0x12 ∷ 0x13 ∷ 0x55 ∷ []) 955 1 300 (1 ∷ []) 14
-    ∷ asks (0x21 ∷ 0x22 ∷ 0x23 ∷ 0x24 ∷ 0x25 ∷ []) (0x21 ∷ 0x22 ∷ 0x23 ∷ 0x24 ∷ 0x25 ∷ []) 957 2 958 (45 ∷ []) 21
-    -- besides, ours: four stations, the fewest of an extended request
+    -- the exchange promises an answer over two relays, and by an extended route; and none where the destination rejects the runs
+    -- with 8, or a relay is missing
+    ∷ asks (0x12 ∷ 0x13 ∷ 0x55 ∷ []) (0x12 ∷ 0x13 ∷ 0x55 ∷ []) 955 1 300 (1 ∷ []) 14 answered
+    ∷ asks (0x21 ∷ 0x22 ∷ 0x23 ∷ 0x24 ∷ 0x25 ∷ []) (0x21 ∷ 0x22 ∷ 0x23 ∷ 0x24 ∷ 0x25 ∷ []) 957 2 958 (45 ∷ []) 21 answered
+    ∷ asks (0x12 ∷ 0x13 ∷ 0x55 ∷ []) (0x12 ∷ 0x13 ∷ 0x55 ∷ []) 953 2 300 (1 ∷ []) 14 (unanswered (0x12 ∷ 0x13 ∷ 0x55 ∷ []) (refusedWith 8))
+    ∷ asks (0x12 ∷ 0x13 ∷ 0x55 ∷ []) (0x12 ∷ 0x99 ∷ 0x55 ∷ []) 955 1 300 (1 ∷ []) 14 (unanswered (0x12 ∷ 0x99 ∷ []) atNobody)
+    -- besides: four stations, the fewest of an extended request
     ∷ requests (0x12 ∷ 0x13 ∷ 0x14 ∷ 0x55 ∷ []) 955 1 300 (1 ∷ []) (0x60 ∷ 0xFF ∷ 0xEF ∷ 0xEF ∷ 0xEF ∷ 0xEF ∷ 0x05 ∷ 0x12 ∷ 0x13 ∷ 0x14 ∷ 0x55 ∷ 0x00 ∷ 0x03 ∷ 0xBB ∷ 0x01 ∷ 0x01 ∷ 0x2C ∷ 0x01 ∷ 0x00 ∷ 0x01 ∷ [])
-    -- besides, ours: an output one place short; no station, a station twice, no address
+    -- besides: an output one place short; no station, a station twice, no address
     ∷ noRequest (0x12 ∷ 0x13 ∷ 0x55 ∷ []) 955 1 300 (1 ∷ []) 13 11
     ∷ noRequest [] 955 1 300 (1 ∷ []) 1024 5
     ∷ noRequest (0x12 ∷ 0x12 ∷ []) 955 1 300 (1 ∷ []) 1024 5
     ∷ noRequest (0xF1 ∷ []) 955 1 300 (1 ∷ []) 1024 5
-    -- besides, ours: with no output at all, 31 stations pass 5 and 32 do not; and 255 registers and values pass 12, and 256 do not
+    -- besides: with no output at all, 31 stations pass 5 and 32 do not; and 255 registers and values pass 12, and 256 do not
     ∷ noRequest (downFrom 31) 955 256 300 [] 0 12
     ∷ noRequest (downFrom 32) 955 256 300 [] 0 5
     ∷ noRequest (0xF0 ∷ []) 955 255 300 (replicate 255 1) 0 11
     ∷ noRequest (0xF0 ∷ []) 955 256 300 (replicate 255 1) 0 12
     ∷ noRequest (0xF0 ∷ []) 955 255 300 (replicate 256 1) 0 12
-    -- besides, ours: behind the mark 00 EF EF EF of a reply stands a block of two entries, and EF is no station of it
+    -- besides: behind the mark 00 EF EF EF of a reply stands a block of two entries, and EF is no station of it
     ∷ replies (0xE0 ∷ 0xFF ∷ 0x00 ∷ 0xEF ∷ 0xEF ∷ 0xEF ∷ 0x02 ∷ 0x00 ∷ 0x12 ∷ 0x01 ∷ 0x2C ∷ 0x01 ∷ 0x00 ∷ 0x03 ∷ []) (0x12 ∷ []) 300 1 (0x00 ∷ 0x03 ∷ [])
-    -- besides, ours: a telegram for station 12, also with a body of the wrong length; a request; a block that names nobody, also with
+    -- besides: a telegram for station 12, also with a body of the wrong length; a request; a block that names nobody, also with
     -- the wrong mark; a wrong mark; and a body one byte short, and one byte long
     ∷ noReply (0xE0 ∷ 0xFF ∷ 0x12 ∷ 0x13 ∷ 0x55 ∷ 0x00 ∷ 0x03 ∷ 0xBB ∷ 0x01 ∷ 0x00 ∷ 0x00 ∷ []) centre.notMine
     ∷ noReply (0xE0 ∷ 0xFF ∷ 0x12 ∷ 0x13 ∷ 0x55 ∷ 0x00 ∷ 0x03 ∷ 0xBB ∷ 0x01 ∷ 0x00 ∷ []) centre.notMine
@@ -248,7 +259,7 @@ cases =
     ∷ noReply (0xE0 ∷ 0xFF ∷ 0xEF ∷ 0xEF ∷ 0xEF ∷ 0xEF ∷ 0x02 ∷ 0x00 ∷ 0x12 ∷ 0x03 ∷ 0xBB ∷ 0x01 ∷ 0x00 ∷ 0x00 ∷ []) (centre.refuses 6)
     ∷ noReply (0xE0 ∷ 0xFF ∷ 0x00 ∷ 0x12 ∷ 0x13 ∷ 0x55 ∷ 0x03 ∷ 0xBB ∷ 0x01 ∷ 0x00 ∷ []) (centre.refuses 7)
     ∷ noReply (0xE0 ∷ 0xFF ∷ 0x00 ∷ 0x12 ∷ 0x13 ∷ 0x55 ∷ 0x03 ∷ 0xBB ∷ 0x01 ∷ 0x00 ∷ 0x00 ∷ 0x00 ∷ []) (centre.refuses 7)
-    -- besides, ours: the faults of a header in their order. Too long; under 6 bytes, before the function byte; the function byte, before
+    -- besides: the faults of a header in their order. Too long; under 6 bytes, before the function byte; the function byte, before
     -- the count; no count; 33 entries, of which none is there; 3 entries, of which two are there; and a header without a body
     ∷ noReply (replicate 1025 0) (centre.refuses 12)
     ∷ noReply (0x60 ∷ 0xFF ∷ 0x00 ∷ 0x12 ∷ 0x00 ∷ []) (centre.refuses 2)
