@@ -31,7 +31,7 @@ use Rattle.mop_station.specs.Body.{accepts, judgedRuns, judgedBody, replyBody}
 use Rattle.mop_station.proofs.Bodies.{right-length}
 use Rattle.mop_station.proofs.Answers.{reply-bound}
 use Rattle.mop_centre.specs.Request.{requestHead, requestTelegram, requesting}
-use Rattle.mop_centre.specs.Reply.{ReplyReading, acceptedReading, replyReading}
+use Rattle.mop_centre.specs.Reply.{ReplyReading, acceptedReading, replyReceipt, replyReading}
 use Rattle.mop_centre.proofs.Routes.{Route}
 use Rattle.journey.specs.Net.{Net, goodNet, isThere, allThere, upToMissing, tableAt, withTable}
 use Rattle.journey.specs.Journey.{Ending, Course, Journey}
@@ -41,7 +41,7 @@ use Rattle.journey.specs.Transmissions.{outward, relayedBlock, homeward, reques
 use Rattle.journey.proofs.Telegrams.{sized-with}
 use Rattle.journey.proofs.Whole.{every-journey, byte-for-byte}
 use Rattle.centre_laws.specs.ReadBack.{routeEnd, ReadsAs}
-use Rattle.centre_laws.specs.Exchange.{answerFrom, Answered, NoAnswer, Exchange, EveryExchange}
+use Rattle.centre_laws.specs.Exchange.{verdicts, answerFrom, Answered, NoAnswer, Exchange, EveryExchange}
 use Rattle.centre_laws.proofs.Requests.{Shape, shape, route-full, route-once, wrote, request-reads-back}
 use Rattle.centre_laws.proofs.Replies.{receipt-read, reply-reads-back}
 use Rattle.centre_laws.proofs.Rolls.{last-reply}
@@ -91,6 +91,10 @@ module _ (route : List ℕ) (r : Route route) (s : Shape route) where
       ∙ ap (headerRoom (s .form)) length-home
       ∙ sym (length-header (head Request newControl (s .form) (spread route (s .gap) [])))
       ∙ ap headerLength (sym (s .is))
+
+-- what the reader tells is its verdict
+by-receipts : (c : Course) → verdicts c ≡ map replyReceipt (c .transmissions)
+by-receipts c = λ i. map (λ (tg : List ℕ). receipt-read tg i) (c .transmissions)
 
 -- the stations up to one that is missing are stations
 full-missing : (net : Net) {l : List ℕ} → Full l → Full (upToMissing l net)
@@ -169,7 +173,7 @@ module _ (net : Net) (route : List ℕ) (rStart rCount wStart : ℕ) (values tel
           (subst (λ (n : ℕ). Written n (valuesOf body) (tableAt (destination h) net) table) (w .write-start) (a .written)));
       others = subst (λ (d : ℕ). c .after ≡ withTable d (tableAt d (c .after)) net) (w .last) (a .others);
       answer = answer-read;
-      heard = journey-heard body (replyBody body table) (c .transmissions) (route-full r)
+      heard = by-receipts c ∙ journey-heard body (replyBody body table) (c .transmissions) (route-full r)
           (a .passage ∙ ap (λ (l : List ℕ). thereAndBack l body (replyBody body table)) (w .named))
           (sym (receipt-read (lastTelegram (c .transmissions))) ∙ ap (λ (x : ReplyReading). x .answer .receipt) answer-read);
     }
@@ -181,7 +185,7 @@ module _ (net : Net) (route : List ℕ) (rStart rCount wStart : ℕ) (values tel
       let sent = requestBody rStart rCount wStart values in
       let u : Unanswered net sent (to route) e c =
       subst (λ (l : List ℕ). Unanswered net l (to route) e c) wrote-body (subst (λ (l : List ℕ). Unanswered net body (to l) e c) (w .named) d) in
-      record { unanswered = u; heard = requests-heard sent (c .transmissions) f (u .passage) }
+      record { unanswered = u; heard = by-receipts c ∙ requests-heard sent (c .transmissions) f (u .passage) }
 
   pub exchange : Exchange net route rStart rCount wStart values telegram
   exchange =

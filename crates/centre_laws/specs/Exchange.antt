@@ -12,16 +12,16 @@ use Rattle.mop_header.specs.Header.{headerLength}
 use Rattle.mop_body.specs.Body.{requestBody}
 use Rattle.mop_station.specs.Body.{accepts, rejects, judgedRuns}
 use Rattle.mop_centre.specs.Request.{requestHead, requesting}
-use Rattle.mop_centre.specs.Reply.{Receipt, accepted, notMine, refuses, replyReceipt, ReplyReading, acceptedReading, replyReading}
+use Rattle.mop_centre.specs.Reply.{Receipt, accepted, notMine, refuses, ReplyReading, acceptedReading, replyReading}
 use Rattle.journey.specs.Net.{Net, goodNet, allThere, upToMissing, tableAt, withTable}
 use Rattle.journey.specs.Journey.{Ending, atZero, atNobody, refusedWith, Course}
 use Rattle.journey.specs.Terms.{Written, lastTelegram}
 use Rattle.journey.specs.Demand3.{Unanswered, TheJourney}
 use Rattle.centre_laws.specs.ReadBack.{routeEnd, ReadsAs}
 
--- what the centre says of the transmissions of a journey, if it hears them all
+-- the verdicts of the centre's reader on the transmissions of a journey, if it is handed them all
 abbrev pub verdicts : Course → List Receipt
-verdicts c = map replyReceipt (c .transmissions)
+verdicts c = map (λ (tg : List ℕ). replyReading tg .answer .receipt) (c .transmissions)
 
 -- what the centre reads in the reply to a request: it accepts the telegram, and is given the route that it asked by, the run that
 -- it asked for, and as values the registers of that run in a table
