@@ -1,0 +1,5 @@
+pub mod Three
+pub mod States
+pub mod Messages
+pub mod Replies
+pub mod Runs

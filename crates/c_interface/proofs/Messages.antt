@@ -1,0 +1,82 @@
+-- No message is longer than a block holds.
+-- Assumes nothing.
+use mathlib.Core.Path.{_≡_, refl, sym, _∙_, ap}
+use mathlib.Core.Bool.{Bool, true, false, _||_}
+use mathlib.Core.List.{List}
+use Prim.Native.Nat.{ℕ, _≤_}
+use borrow.Author.Tests.{leb-true, le-leb, ltb-false}
+use lib.Dec.{eqb, ltb}
+use lib.Bits.{bitXor}
+use lib.ListN.{length}
+use Rattle.base.specs.Choice.{pick}
+use Rattle.link_frame.specs.Frame.{maxData}
+use Rattle.link_frame.specs.ControlBytes.{STX, ETX, DLE, NAK}
+use Rattle.link_receive.specs.Receive.{nothing, sends, delivers, refuses, responseOf, Reaction, Outcome, with, at, to, resting, restOf, noRoom, Storing, afterStore, storeOf, dataOf, insideOf, waitingOf, byteOf, timerOf, eventOf, against, receiveOf}
+use Rattle.link_receive.specs.declared.Dle.{Dle}
+use Rattle.link_receive.specs.declared.Dle.the-variants.{Seen, NotSeen}
+use Rattle.link_receive.specs.declared.Phase.{Phase}
+use Rattle.link_receive.specs.declared.Phase.the-variants.{Rest, Inside, Waiting}
+use Rattle.link_receive.specs.declared.LinkState.{LinkState}
+use Rattle.link_receive.specs.declared.LinkEvent.{LinkEvent}
+use Rattle.link_receive.specs.declared.LinkEvent.the-variants.{Byte, Timer}
+use Rattle.link_receive.specs.declared.LinkAnswer.{LinkAnswer}
+use Rattle.link_receive.specs.declared.LinkAnswer.the-variants.{Message}
+use Rattle.c_interface.specs.Link.{shortMessage}
+
+-- of an answer that is a message
+pub message-bound : (n : ℕ) {a : LinkAnswer} → shortMessage (responseOf a) ≡ true → a ≡ Message n → n ≤ maxData
+message-bound n short told = leb-true n maxData (sym (ap (λ (x : LinkAnswer). shortMessage (responseOf x)) told) ∙ short)
+
+-- a property of both is one of the choice
+either : {A : Type 0} (P : A → Type 0) (t : Bool) (a b : A) → P a → P b → P (pick t a b)
+either P true a b x y = x
+either P false a b x y = y
+
+abbrev short : Reaction → Type 0
+short r = shortMessage (r .response) ≡ true
+
+abbrev shortOut : Outcome → Type 0
+shortOut o = short (o .reaction)
+
+rest-short : (b : ℕ) → short (restOf b)
+unfolding restOf
+rest-short b =
+    either short (eqb b STX) _ _ refl (either short (eqb b NAK) (resting nothing) (resting (sends NAK)) refl refl)
+
+data-short : (n c b : ℕ) (buf : List ℕ) → shortOut (dataOf n c b buf)
+unfolding dataOf storeOf afterStore
+data-short n c b buf =
+    either (λ (s : Storing). short (afterStore (s .stored))) (noRoom n buf) _ _ refl refl
+
+inside-short : (d : Dle) (n c b : ℕ) (buf : List ℕ) → shortOut (insideOf d n c b buf)
+unfolding insideOf
+inside-short NotSeen n c b buf =
+    either shortOut (eqb b DLE) (with (to nothing (at (Inside Seen) n c)) buf) (dataOf n c b buf) refl (data-short n c b buf)
+inside-short Seen n c b buf =
+    let closed = with (to nothing (at Waiting n c)) buf in
+    let broken = with (resting (sends NAK)) buf in
+    either shortOut (eqb b DLE) (dataOf n c b buf) (pick (eqb b ETX) closed broken) (data-short n c b buf)
+    (either shortOut (eqb b ETX) closed broken refl refl)
+
+waiting-short : (n c b : ℕ) → n ≤ maxData → short (waitingOf n c b)
+unfolding waitingOf
+waiting-short n c b most = either short (eqb b c) (resting (delivers DLE n)) (resting (sends NAK)) (le-leb n maxData most) refl
+
+event-short : (e : LinkEvent) (p : Phase) (n c : ℕ) (buf : List ℕ) → n ≤ maxData → shortOut (eventOf e (at p n c) buf)
+unfolding eventOf byteOf timerOf
+event-short (Byte b) Rest n c buf most = rest-short b
+event-short (Byte b) (Inside d) n c buf most = inside-short d n (bitXor c b) b buf
+event-short (Byte b) Waiting n c buf most = waiting-short n c b most
+event-short Timer Rest n c buf most = refl
+event-short Timer (Inside d) n c buf most = refl
+event-short Timer Waiting n c buf most = refl
+
+by-limit : (s : LinkState) (e : LinkEvent) (buf : List ℕ) (t u : Bool) → ltb maxData (s .count) ≡ u →
+    shortOut (pick (t || u) (with (to (refuses 1) s) buf) (eventOf e s buf))
+by-limit s e buf true u is = refl
+by-limit s e buf false true is = refl
+by-limit s e buf false false is = event-short e (s .phase) (s .count) (s .check) buf (ltb-false maxData (s .count) is)
+
+pub message-short : (s : LinkState) (e : LinkEvent) (buf : List ℕ) → shortMessage (receiveOf s e buf .reaction .response) ≡ true
+unfolding receiveOf against
+message-short s e buf = by-limit s e buf (ltb (length buf) (s .count)) (ltb maxData (s .count)) refl

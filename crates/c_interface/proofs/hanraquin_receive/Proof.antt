@@ -1,0 +1,63 @@
+-- `hanraquin_receive`: the tests of a state, and then the event.
+-- Assumes nothing.
+use mathlib.Core.Path.{sym, _∙_}
+use Rattle.c_interface.proofs.States.{not-three, bad-phase, bad-check, is-state, at-state}
+use borrow.Author.Needs.{needs}
+use Rattle.c_interface.proofs.hanraquin_receive.Statement.{statement}
+use Rattle.c_interface.proofs.hanraquin_receive.Tie as tie
+
+refused-requires : tie.Need-refused-requires
+refused-requires c κs = search needs
+
+returns : tie.Need-returns
+returns c = rw (c .refused .ensures) (sym (not-three _ _ _ (c .before .if1 .taken)))
+
+slice-read-if2 : tie.Need-slice-read-if2
+slice-read-if2 c = search needs
+
+refused-requires-2 : tie.Need-refused-requires-2
+refused-requires-2 c κs = search needs
+
+returns-2 : tie.Need-returns-2
+returns-2 c = rw (c .refused2 .ensures) (sym (bad-phase _ _ _ (c .before .if2 .taken)))
+
+slice-read-if3 : tie.Need-slice-read-if3
+slice-read-if3 c = search needs
+
+refused-requires-3 : tie.Need-refused-requires-3
+refused-requires-3 c κs = search needs
+
+returns-3 : tie.Need-returns-3
+returns-3 c = rw (c .refused3 .ensures) (sym (bad-check _ _ _ (c .before .if3 .taken)))
+
+receive-at-requires : tie.Need-receive-at-requires
+receive-at-requires c κs = let e = c .before .before in
+    is-state _ (e .before .before .before .before .if1 .left) (e .before .before .if2 .left) (e .if3 .left)
+
+same-length : tie.Need-same-length
+same-length c = search needs
+
+same-length-2 : tie.Need-same-length-2
+same-length-2 c = search needs
+
+returns-4 : tie.Need-returns-4
+returns-4 c = let e = c .before .before .before .before .before .before .before in
+    let state = is-state _ (e .before .before .before .before .if1 .left) (e .before .before .if2 .left) (e .if3 .left) in
+    c .before .before .before .before .receive-at .ensures ∙ sym (at-state _ _ _ state)
+
+pub hanraquin-receive-spec : {M : Type 1} → statement M
+hanraquin-receive-spec =
+    tie.close
+    (tie.spec
+    refused-requires
+    returns
+    slice-read-if2
+    refused-requires-2
+    returns-2
+    slice-read-if3
+    refused-requires-3
+    returns-3
+    receive-at-requires
+    same-length
+    same-length-2
+    returns-4)

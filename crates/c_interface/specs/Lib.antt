@@ -1,0 +1,5 @@
+pub mod Answer
+pub mod Link
+pub mod Station
+pub mod Centre
+pub mod Net
