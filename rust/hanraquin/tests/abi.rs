@@ -1,0 +1,349 @@
+//! The library's own functions: answers of 64 bits, wrong lengths, and numbers at the limits.
+
+use hanraquin::{FACTORY, sys};
+
+const NOT_MINE: u64 = 255 << 32;
+
+/// Read register 955 of 55 over 12 and 13, and write 1 to 300.
+const REQUEST: [u8; 14] = [
+    0x60, 0xFF, 0x12, 0x13, 0x55, 0x00, 0x03, 0xBB, 0x01, 0x01, 0x2C, 0x01, 0x00, 0x01,
+];
+const REPLY: [u8; 11] = [
+    0xE0, 0xFF, 0x00, 0x12, 0x13, 0x55, 0x03, 0xBB, 0x01, 0x00, 0x00,
+];
+
+/// The whole answer of a call that is refused.
+const fn refused(number: u64) -> u64 {
+    number << 32
+}
+
+fn frame(data: &[u8], out: &mut [u8]) -> u64 {
+    // SAFETY: pointers and lengths are those of slices.
+    unsafe { sys::hanraquin_frame(data.as_ptr(), data.len(), out.as_mut_ptr(), out.len()) }
+}
+
+fn receive(state: &mut [u64], event: u32, buffer: &mut [u8]) -> u64 {
+    // SAFETY: pointers and lengths are those of slices.
+    unsafe {
+        sys::hanraquin_receive(
+            state.as_mut_ptr(),
+            state.len(),
+            event,
+            buffer.as_mut_ptr(),
+            buffer.len(),
+        )
+    }
+}
+
+fn station(own: u8, registers: &mut [u16], telegram: &[u8], out: &mut [u8]) -> u64 {
+    // SAFETY: pointers and lengths are those of slices.
+    unsafe {
+        sys::hanraquin_station(
+            own,
+            registers.as_mut_ptr(),
+            registers.len(),
+            telegram.as_ptr(),
+            telegram.len(),
+            out.as_mut_ptr(),
+            out.len(),
+        )
+    }
+}
+
+fn write_request(route: &[u8], read_count: usize, values: &[u16], out: &mut [u8]) -> u64 {
+    // SAFETY: pointers and lengths are those of slices.
+    unsafe {
+        sys::hanraquin_write_request(
+            route.as_ptr(),
+            route.len(),
+            955,
+            read_count,
+            300,
+            values.as_ptr(),
+            values.len(),
+            out.as_mut_ptr(),
+            out.len(),
+        )
+    }
+}
+
+fn read_reply(telegram: &[u8], route: &mut [u8], run: &mut [u16]) -> u64 {
+    // SAFETY: pointers and lengths are those of slices.
+    unsafe {
+        sys::hanraquin_read_reply(
+            telegram.as_ptr(),
+            telegram.len(),
+            route.as_mut_ptr(),
+            route.len(),
+            run.as_mut_ptr(),
+            run.len(),
+        )
+    }
+}
+
+fn dry_run(
+    telegram: &[u8],
+    addresses: &[u8],
+    tables: &mut [u16],
+    out: &mut [u8],
+    result: &mut [u32],
+) -> u64 {
+    // SAFETY: pointers and lengths are those of slices.
+    unsafe {
+        sys::hanraquin_dry_run(
+            telegram.as_ptr(),
+            telegram.len(),
+            addresses.as_ptr(),
+            addresses.len(),
+            tables.as_mut_ptr(),
+            tables.len(),
+            out.as_mut_ptr(),
+            out.len(),
+            result.as_mut_ptr(),
+            result.len(),
+        )
+    }
+}
+
+#[test]
+fn frame_answers_its_length() {
+    let mut out = [0xA5; 2051];
+    assert_eq!(frame(&[], &mut out), 3);
+    assert_eq!(frame(&[0x10; 1024], &mut out), 2051);
+    assert_eq!(frame(&[0x10; 1025], &mut out), refused(12));
+    assert_eq!(frame(&[0x10; 1025], &mut []), refused(12));
+    assert_eq!(frame(&[0x10; 1024], &mut out[..2050]), refused(11));
+    assert_eq!(frame(&[], &mut []), refused(11));
+}
+
+#[test]
+fn every_event_number_is_a_byte_or_the_timer() {
+    let inside = [1, 0, 0];
+    for event in 0..=255 {
+        let (mut state, mut buffer) = (inside, [0xA5; 2]);
+        assert_eq!(receive(&mut state, event, &mut buffer), 0);
+        if event == 0x10 {
+            assert_eq!((state, buffer), ([2, 0, 0x10], [0xA5; 2]));
+        } else {
+            assert_eq!(state, [1, 1, u64::from(event)]);
+            assert_eq!(buffer, [event as u8, 0xA5]);
+        }
+    }
+    for event in [256, 257, 256 + 2, 65536 + 2, 1 << 31, u32::MAX] {
+        let (mut state, mut buffer) = (inside, [0xA5; 2]);
+        assert_eq!(receive(&mut state, event, &mut buffer), 256 + 0x15);
+        assert_eq!((state, buffer), ([0; 3], [0xA5; 2]));
+        assert_eq!(receive(&mut state, event, &mut buffer), 0);
+        assert_eq!(state, [0; 3]);
+    }
+}
+
+#[test]
+fn receive_answers_a_message_with_its_count() {
+    for count in [0, 1, 1023, 1024] {
+        let (mut state, mut buffer) = ([3, count, 0x15], [0xA5; 2000]);
+        assert_eq!(receive(&mut state, 0x15, &mut buffer), 65536 + count);
+        assert_eq!((state, buffer), ([0; 3], [0xA5; 2000]));
+    }
+    assert_eq!(receive(&mut [3, 0, 0], 0, &mut []), 65536);
+}
+
+#[test]
+fn states_that_cannot_be_are_refused_in_every_phase() {
+    const HUGE: [u64; 4] = [1 << 32, (1 << 32) + 1, 1 << 63, u64::MAX];
+    let mut bad = vec![];
+    for phase in 0..=3 {
+        for number in HUGE {
+            bad.push([phase, number, 0]);
+            bad.push([phase, 0, number]);
+            bad.push([number, 0, 0]);
+        }
+        // One more than the buffer has places, and a check of more than a byte.
+        bad.push([phase, 5, 0]);
+        bad.push([phase, 0, 256]);
+        bad.push([phase + 4, 0, 0]);
+    }
+    for before in bad {
+        for event in [0, 0x02, 0x03, 0x10, 0x15, 255, 256, u32::MAX] {
+            let (mut state, mut buffer) = (before, [0xA5; 4]);
+            assert_eq!(receive(&mut state, event, &mut buffer), refused(1));
+            assert_eq!((state, buffer), (before, [0xA5; 4]));
+        }
+    }
+    // More than 1,024, in a buffer that is long enough.
+    for phase in 0..=3 {
+        let (mut state, mut buffer) = ([phase, 1025, 0], [0xA5; 2000]);
+        assert_eq!(receive(&mut state, 0x02, &mut buffer), refused(1));
+        assert_eq!((state, buffer), ([phase, 1025, 0], [0xA5; 2000]));
+    }
+}
+
+#[test]
+fn states_of_another_length_are_refused() {
+    for length in [0, 1, 2, 4, 18] {
+        let (mut state, mut buffer) = (vec![0; length], [0xA5; 4]);
+        for event in [0x02, 256] {
+            assert_eq!(receive(&mut state, event, &mut buffer), refused(1));
+            assert_eq!((&state[..], buffer), (&vec![0; length][..], [0xA5; 4]));
+        }
+    }
+}
+
+#[test]
+fn station_answers() {
+    let (mut registers, mut out) = (FACTORY, [0xA5; 1024]);
+    assert_eq!(station(0x12, &mut registers, &REQUEST, &mut out), 14);
+    assert_eq!(station(0x55, &mut registers, &REQUEST, &mut out), NOT_MINE);
+    for own in [0, 241, 255] {
+        let answer = station(own, &mut registers, &REQUEST, &mut out);
+        assert_eq!(answer, refused(1));
+    }
+    for length in [0, 17, 19, 36] {
+        let answer = station(0x12, &mut vec![0; length], &REQUEST, &mut out);
+        assert_eq!(answer, refused(1));
+    }
+    assert_eq!(station(0x12, &mut registers, &[], &mut []), refused(2));
+    let too_long = [0; 1025];
+    assert_eq!(
+        station(0x12, &mut registers, &too_long, &mut []),
+        refused(12)
+    );
+    assert_eq!(
+        station(0x12, &mut registers, &REQUEST, &mut []),
+        refused(11)
+    );
+    assert_eq!(registers, FACTORY);
+}
+
+#[test]
+fn large_read_counts_are_not_cut() {
+    let mut out = [0xA5; 555];
+    for count in [
+        256,
+        257,
+        511,
+        65536,
+        1 << 32,
+        (1 << 32) + 1,
+        1 << 63,
+        usize::MAX,
+    ] {
+        assert_eq!(write_request(&[0x55], count, &[1], &mut out), refused(12));
+        // The route is judged before, and the output after.
+        assert_eq!(write_request(&[], count, &[1], &mut out), refused(5));
+        assert_eq!(write_request(&[0x55], count, &[1], &mut []), refused(12));
+    }
+    assert_eq!(out, [0xA5; 555]);
+    assert_eq!(write_request(&[0x55], 255, &[1], &mut out), 14);
+    assert_eq!(write_request(&[0x55], 0, &[0; 256], &mut out), refused(12));
+    assert_eq!(write_request(&[0x55], 0, &[], &mut []), refused(11));
+
+    let route: Vec<u8> = (1..=31).collect();
+    assert_eq!(
+        write_request(&route, 255, &[0; 255], &mut out[..554]),
+        refused(11)
+    );
+    assert_eq!(write_request(&route, 255, &[0; 255], &mut out), 555);
+}
+
+#[test]
+fn read_reply_gives_the_place_of_the_values() {
+    let (mut route, mut run) = ([0xA5; 31], [7; 3]);
+    assert_eq!(read_reply(&REPLY, &mut route, &mut run), 2);
+    assert_eq!(route[..3], [0x12, 0x13, 0x55]);
+    assert_eq!(route[3..], [0; 28]);
+    assert_eq!(run, [955, 1, 9]);
+
+    // No values, in both forms.
+    let standard = [0xE0, 0xFF, 0x00, 0x12, 0x55, 0x00, 0xFF, 0xFF, 0x00];
+    assert_eq!(read_reply(&standard, &mut route, &mut run), 0);
+    assert_eq!(run, [65535, 0, 9]);
+    let extended = [
+        0xE0, 0xFF, 0x00, 0xEF, 0xEF, 0xEF, 0x02, 0x00, 0x12, 0x01, 0x2C, 0x00,
+    ];
+    assert_eq!(read_reply(&extended, &mut route, &mut run), 0);
+    assert_eq!(run, [300, 0, 12]);
+    assert_eq!(route[..2], [0x12, 0x00]);
+}
+
+#[test]
+fn read_reply_clears_its_outputs_unless_their_lengths_are_wrong() {
+    let relay = [
+        0xE0, 0xFF, 0x12, 0x13, 0x55, 0x00, 0x03, 0xBB, 0x01, 0x00, 0x00,
+    ];
+    let cases: [(&[u8], u64); 5] = [
+        (&[], refused(2)),
+        (&REQUEST, refused(3)),
+        (&REPLY[..10], refused(7)),
+        (&relay, NOT_MINE),
+        (&[0; 1025], refused(12)),
+    ];
+    for (telegram, answer) in cases {
+        let (mut route, mut run) = ([0xA5; 31], [7; 3]);
+        assert_eq!(read_reply(telegram, &mut route, &mut run), answer);
+        assert_eq!((route, run), ([0; 31], [0; 3]));
+    }
+    for telegram in [&REPLY[..], &REQUEST, &[]] {
+        for (route_len, run_len) in [(0, 3), (30, 3), (32, 3), (31, 0), (31, 2), (31, 4), (3, 31)] {
+            let (mut route, mut run) = (vec![0xA5; route_len], vec![7; run_len]);
+            assert_eq!(read_reply(telegram, &mut route, &mut run), refused(1));
+            assert_eq!((route, run), (vec![0xA5; route_len], vec![7; run_len]));
+        }
+    }
+}
+
+#[test]
+fn dry_run_gives_its_result() {
+    let addresses = [0x12, 0x13, 0x55];
+    // Write 4 to register 300, which takes 0 to 3; and a station that is not there.
+    let (mut refused_at_55, mut to_99) = (REQUEST, REQUEST);
+    refused_at_55[13] = 4;
+    to_99[3] = 0x99;
+    for (telegram, count, ending, length) in [
+        (&REQUEST[..], 6, sys::AT_ZERO, 11),
+        (&to_99, 2, sys::AT_NOBODY, 14),
+        (&refused_at_55, 3, 10, 14),
+        (&REPLY, 1, sys::AT_ZERO, 11),
+    ] {
+        let (mut tables, mut out, mut result) = ([FACTORY; 3], [0xA5; 1030], [7; 3]);
+        let tables = tables.as_flattened_mut();
+        let answer = dry_run(telegram, &addresses, tables, &mut out, &mut result);
+        assert_eq!(answer, u64::from(count));
+        assert_eq!(result, [count, ending, length]);
+        assert!(out[length as usize..1024].iter().all(|&byte| byte == 0));
+        assert_eq!(out[1024..], [0xA5; 6]);
+    }
+}
+
+#[test]
+fn refused_dry_runs_keep_everything() {
+    let addresses: Vec<u8> = (1..=65).collect();
+    let check = |telegram: &[u8], addresses: &[u8], lengths: [usize; 3], number| {
+        let [tables_len, out_len, result_len] = lengths;
+        let mut tables = vec![7; tables_len];
+        let mut out = vec![0xA5; out_len];
+        let mut result = vec![9; result_len];
+        let answer = dry_run(telegram, addresses, &mut tables, &mut out, &mut result);
+        assert_eq!(answer, refused(number), "{} {lengths:?}", addresses.len());
+        assert_eq!(tables, vec![7; tables_len]);
+        assert_eq!(out, vec![0xA5; out_len]);
+        assert_eq!(result, vec![9; result_len]);
+    };
+    for result_len in [0, 1, 2, 4, 31] {
+        check(&REQUEST, &addresses[..3], [54, 1024, result_len], 1);
+        check(&[], &[], [0, 0, result_len], 1);
+    }
+    check(&REQUEST, &addresses, [65 * 18, 1024, 3], 1);
+    check(&REQUEST, &addresses[..3], [53, 1024, 3], 1);
+    check(&REQUEST, &addresses[..3], [55, 1024, 3], 1);
+    check(&REQUEST, &[], [18, 1024, 3], 1);
+    check(&REQUEST, &[0], [18, 1024, 3], 1);
+    check(&REQUEST, &[241], [18, 1024, 3], 1);
+    check(&REQUEST, &[5, 6, 5], [54, 1024, 3], 1);
+    // 1, 12, 11, and then the header.
+    check(&[0; 1025], &[0], [18, 0, 3], 1);
+    check(&[0; 1025], &[], [0, 0, 3], 12);
+    check(&[], &[], [0, 1023, 3], 11);
+    check(&[], &[], [0, 1024, 3], 2);
+    check(&[0x61; 6], &addresses[..64], [64 * 18, 1024, 3], 3);
+}
