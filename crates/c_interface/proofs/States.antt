@@ -1,13 +1,14 @@
 -- The numbers of a state: the tests in turn, and that a refusal leaves them.
 -- Assumes nothing.
 use mathlib.Core.Path.{_≡_, refl, sym, ap}
-use mathlib.Core.Bool.{Bool, true, false, _&&_, and-false, and-eq-true-iff}
+use mathlib.Core.Bool.{Bool, true, false, _&&_, and-false, and-eq-true-iff, or-true}
 use mathlib.Core.List.{List, [], _∷_}
 use Prim.Native.Nat.{ℕ, zero, suc, _≤_, _<_}
 use native.Mathlib.Omega.{arith}
-use borrow.Author.Tests.{eqb-true, eq-eqb, ne-eqb, leb-true, le-leb, lt-leb}
-use lib.Dec.{eqb, leb}
+use borrow.Author.Tests.{eqb-true, eq-eqb, ne-eqb, leb-true, le-leb, lt-leb, lt-ltb}
+use lib.Dec.{eqb, leb, ltb}
 use lib.ListN.{length, getD}
+use Rattle.link_frame.specs.Frame.{maxData}
 use Rattle.link_receive.specs.Receive.{against, receiveOf}
 use Rattle.c_interface.specs.Answer.{refused}
 use Rattle.c_interface.specs.Link.{dleAt, phaseNumber, phaseAt, isState, stateWords, stateAt, eventAt, received, receivedBy, receiveCall}
@@ -42,6 +43,19 @@ module _ (words : List ℕ) (event : ℕ) (buf : List ℕ) where
   pub bad-check : 255 < getD words 2 0 → receiveCall words event buf ≡ received (refused 1) words buf
   unfolding isState
   bad-check h = no-state (rw (lt-leb (getD words 2 0) 255 h, and-false (eqb (length words) 3 && leb (getD words 0 0) 3)))
+
+  -- a state against its buffer
+  refused-against : against (getD words 1 0) buf ≡ true → receiveCall words event buf ≡ received (refused 1) words buf
+  unfolding receiveCall
+  refused-against h = rw (h, and-false (isState words))
+
+  pub over-buffer : length buf < getD words 1 0 → receiveCall words event buf ≡ received (refused 1) words buf
+  unfolding against
+  over-buffer h = refused-against (rw (lt-ltb (length buf) (getD words 1 0) h))
+
+  pub over-limit : maxData < getD words 1 0 → receiveCall words event buf ≡ received (refused 1) words buf
+  unfolding against
+  over-limit h = refused-against (rw (lt-ltb maxData (getD words 1 0) h, or-true (ltb (length buf) (getD words 1 0))))
 
 pub is-state : (words : List ℕ) → length words ≡ 3 → getD words 0 0 ≤ 3 → getD words 2 0 ≤ 255 → isState words ≡ true
 unfolding isState

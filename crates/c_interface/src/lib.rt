@@ -1,5 +1,6 @@
 // The library's calls as functions for C. Each gives its answer as one number: bits 0 to 31 a value, bits 32 to 39 the kind, 0
 // for done, 255 for "not mine", else the number of the refusal. include/hanraquin.h says it for the programmer.
+use link_frame::MAX_DATA;
 use link_receive::Dle;
 use link_receive::LinkAnswer;
 use link_receive::LinkEvent;
@@ -164,6 +165,13 @@ pub extern "C" fn hanraquin_receive(state: &mut [u64], event: u32, buffer: &mut 
         return refused(Refusal::Setup);
     }
     if 255 < state[2] {
+        return refused(Refusal::Setup);
+    }
+    // The half would refuse these too. Refused here, they are out of the way of every byte that is received.
+    if buffer.len() < state[1] as usize {
+        return refused(Refusal::Setup);
+    }
+    if MAX_DATA < state[1] as usize {
         return refused(Refusal::Setup);
     }
     receive_at(&mut *state, event, &mut *buffer)

@@ -183,16 +183,18 @@ fn take_event(state: LinkState, event: LinkEvent, buffer: &mut [u8]) -> LinkStep
     let count = state.count;
     let check = state.check;
     let phase = state.phase;
-    match event {
-        LinkEvent::Byte(b) => match phase {
-            Phase::Rest => rest_byte(b),
-            Phase::Inside(dle) => inside_byte(dle, count, check ^ b, b, &mut *buffer),
-            Phase::Waiting => waiting_byte(count, check, b),
+    match phase {
+        Phase::Rest => match event {
+            LinkEvent::Byte(b) => rest_byte(b),
+            LinkEvent::Timer => rest(LinkAnswer::Nothing),
         },
-        LinkEvent::Timer => match phase {
-            Phase::Rest => rest(LinkAnswer::Nothing),
-            Phase::Inside(_) => rest(LinkAnswer::Send(NAK)),
-            Phase::Waiting => rest(LinkAnswer::Send(NAK)),
+        Phase::Inside(dle) => match event {
+            LinkEvent::Byte(b) => inside_byte(dle, count, check ^ b, b, &mut *buffer),
+            LinkEvent::Timer => rest(LinkAnswer::Send(NAK)),
+        },
+        Phase::Waiting => match event {
+            LinkEvent::Byte(b) => waiting_byte(count, check, b),
+            LinkEvent::Timer => rest(LinkAnswer::Send(NAK)),
         },
     }
 }

@@ -30,7 +30,8 @@ same-length-3 : tie.Need-same-length-3
 same-length-3 c = search needs
 
 returns-2 : tie.Need-returns-2
-returns-2 c = let e = c .before .before .before .before .before .before .before .before .before .before .before in
+returns-2 c =
+    let e = c .before .before .before .before .before .before .before .before .before .before .before in
     let o = c .before .before .of-outcome in
     let result = e .before .before .before .before .before .before .args .result .now in
     rw (o .ensures .0, o .ensures .1) (ap (λ (d : DryRun). ranBy d result) (c .before .before .before .before .before .before .before .before .dry-run .ensures) ∙ sym (good-result _ _ _ _ _ (e .if1 .left)))

@@ -19,7 +19,8 @@ returns-2 : tie.Need-returns-2
 returns-2 c = rw (c .refused2 .ensures) (sym (bad-run _ _ _ (c .before .if2 .taken)))
 
 tell-reply-requires : tie.Need-tell-reply-requires
-tell-reply-requires c κs = let e = c .before .before in are-places _ _ (e .before .if1 .left) (e .if2 .left)
+tell-reply-requires c κs =
+    let e = c .before .before in are-places _ _ (e .before .if1 .left) (e .if2 .left)
 
 same-length : tie.Need-same-length
 same-length c = search needs
@@ -28,7 +29,8 @@ same-length-2 : tie.Need-same-length-2
 same-length-2 c = search needs
 
 returns-3 : tie.Need-returns-3
-returns-3 c = let e = c .before .before .before .before .before .before .before in
+returns-3 c =
+    let e = c .before .before .before .before .before .before .before in
     c .before .before .before .before .tell-reply .ensures ∙ sym (with-places _ _ _ (are-places _ _ (e .before .if1 .left) (e .if2 .left)))
 
 pub hanraquin-read-reply-spec : {M : Type 1} → statement M

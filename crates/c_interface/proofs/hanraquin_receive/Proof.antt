@@ -1,7 +1,7 @@
 -- `hanraquin_receive`: the tests of a state, and then the event.
 -- Assumes nothing.
 use mathlib.Core.Path.{sym, _∙_}
-use Rattle.c_interface.proofs.States.{not-three, bad-phase, bad-check, is-state, at-state}
+use Rattle.c_interface.proofs.States.{not-three, bad-phase, bad-check, over-buffer, over-limit, is-state, at-state}
 use borrow.Author.Needs.{needs}
 use Rattle.c_interface.proofs.hanraquin_receive.Statement.{statement}
 use Rattle.c_interface.proofs.hanraquin_receive.Tie as tie
@@ -30,8 +30,27 @@ refused-requires-3 c κs = search needs
 returns-3 : tie.Need-returns-3
 returns-3 c = rw (c .refused3 .ensures) (sym (bad-check _ _ _ (c .before .if3 .taken)))
 
+slice-read-if4 : tie.Need-slice-read-if4
+slice-read-if4 c = search needs
+
+refused-requires-4 : tie.Need-refused-requires-4
+refused-requires-4 c κs = search needs
+
+returns-4 : tie.Need-returns-4
+returns-4 c = rw (c .refused4 .ensures) (sym (over-buffer _ _ _ (c .before .if4 .taken)))
+
+slice-read-if5 : tie.Need-slice-read-if5
+slice-read-if5 c = search needs
+
+refused-requires-5 : tie.Need-refused-requires-5
+refused-requires-5 c κs = search needs
+
+returns-5 : tie.Need-returns-5
+returns-5 c = rw (c .refused5 .ensures) (sym (over-limit _ _ _ (c .before .if5 .taken)))
+
 receive-at-requires : tie.Need-receive-at-requires
-receive-at-requires c κs = let e = c .before .before in
+receive-at-requires c κs =
+    let e = c .before .before .before .before .before .before in
     is-state _ (e .before .before .before .before .if1 .left) (e .before .before .if2 .left) (e .if3 .left)
 
 same-length : tie.Need-same-length
@@ -40,8 +59,9 @@ same-length c = search needs
 same-length-2 : tie.Need-same-length-2
 same-length-2 c = search needs
 
-returns-4 : tie.Need-returns-4
-returns-4 c = let e = c .before .before .before .before .before .before .before in
+returns-6 : tie.Need-returns-6
+returns-6 c =
+    let e = c .before .before .before .before .before .before .before .before .before .before .before in
     let state = is-state _ (e .before .before .before .before .if1 .left) (e .before .before .if2 .left) (e .if3 .left) in
     c .before .before .before .before .receive-at .ensures ∙ sym (at-state _ _ _ state)
 
@@ -57,7 +77,13 @@ hanraquin-receive-spec =
     slice-read-if3
     refused-requires-3
     returns-3
+    slice-read-if4
+    refused-requires-4
+    returns-4
+    slice-read-if5
+    refused-requires-5
+    returns-5
     receive-at-requires
     same-length
     same-length-2
-    returns-4)
+    returns-6)

@@ -21,7 +21,8 @@ enum-known-answer-2 : tie.Need-enum-known-answer-2
 enum-known-answer-2 c = search needs
 
 add-result-2 : tie.Need-add-result-2
-add-result-2 c = let most = message-bound _ (c .before .before .before .pre) (c .before .answer2 .given .1) in search (needs, most)
+add-result-2 c =
+    let most = message-bound _ (c .before .before .before .pre) (c .before .answer2 .given .1) in search (needs, most)
 
 enum-known-answer-3 : tie.Need-enum-known-answer-3
 enum-known-answer-3 c = search needs

@@ -28,12 +28,14 @@ read-reply-values-requires : tie.Need-read-reply-values-requires
 read-reply-values-requires c κs = search needs
 
 sub-place : tie.Need-sub-place
-sub-place c = let i = c .before .before .before .before .before .before .before .before .before .before in
+sub-place c =
+    let i = c .before .before .before .before .before .before .before .before .before .before in
     let a = receipt-told _ (i .read-reply .ensures) (ap receiptOf (c .before .enum-told .given .1)) in
     omega (arith, values-within _ a, ap length (c .read-reply-values .ensures .0))
 
 cast-put-run : tie.Need-cast-put-run
-cast-put-run c = let i = c .before .before .before .before .before .before .before .before .before .before in
+cast-put-run c =
+    let i = c .before .before .before .before .before .before .before .before .before .before in
     let a = receipt-told _ (i .read-reply .ensures) (ap receiptOf (c .before .enum-told .given .1)) in
     search (needs, telegram-short _ a)
 
@@ -62,7 +64,8 @@ same-length-2 : tie.Need-same-length-2
 same-length-2 c = search needs
 
 returns : tie.Need-returns
-returns c = let m = c .before .before .before .before .before .before in
+returns c =
+    let m = c .before .before .before .before .before .before in
     let i = m .before .before .before .before .before .before .before .before in
     let whole = route-put (i .read-reply .result .route) _ _ (i .before .before .before .before .pre) (search needs) in
     rw (m .before .before .before .put .ensures, whole)
@@ -76,7 +79,8 @@ same-length-4 : tie.Need-same-length-4
 same-length-4 c = search needs
 
 returns-2 : tie.Need-returns-2
-returns-2 c = let m = c .before .before .before .before .before in
+returns-2 c =
+    let m = c .before .before .before .before .before in
     let i = m .before .before .before .before .before .before .before .before in
     let whole = route-put (i .read-reply .result .route) _ _ (i .before .before .before .before .pre) (search needs) in
     rw (m .before .before .before .put .ensures, whole)
@@ -89,7 +93,8 @@ same-length-6 : tie.Need-same-length-6
 same-length-6 c = search needs
 
 returns-3 : tie.Need-returns-3
-returns-3 c = let m = c .before .before .before .before .before .before .before in
+returns-3 c =
+    let m = c .before .before .before .before .before .before .before in
     let i = m .before .before .before .before .before .before .before .before in
     let whole = route-put (i .read-reply .result .route) _ _ (i .before .before .before .before .pre) (search needs) in
     rw (m .before .before .before .put .ensures, whole, c .refused .ensures)
