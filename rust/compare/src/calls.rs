@@ -64,7 +64,8 @@ pub struct Bank {
 }
 
 impl Bank {
-    pub fn new() -> Bank {
+    /// The registers of a new station, and what stands behind them.
+    pub fn factory() -> Bank {
         let mut table = [BEHIND; TABLE];
         table[..COUNT].copy_from_slice(&factory());
         Bank { table }

@@ -2,7 +2,7 @@
 
 use crate::centre::{Call, Request, PARTS};
 use crate::inputs::{Case, Mode, Random};
-use crate::listed::{self, case, encode, Listed, MOST};
+use crate::listed::{self, case, encode, Kind, Listed, MOST};
 use crate::telegrams::{all_runs, counted, forms, mark_of, marked, telegram, writable_runs};
 use crate::telegrams::{REPLY, REQUEST};
 use reference::centre::MAX_ROUTE;
@@ -12,30 +12,32 @@ use reference::registers::COUNT;
 /// Most calls of one list.
 const LIST: usize = 10_000;
 
+/// The kinds of calls, each with what makes them.
+pub const KINDS: [Kind<Call>; 18] = [
+    ("lengths of routes", routes),
+    ("damaged routes", damaged_routes),
+    ("counts and outputs", counts),
+    ("every count", every_count),
+    ("starts and values", starts),
+    ("outputs", outputs),
+    ("any requests", any_requests),
+    ("rotations", rotations),
+    ("lengths of bodies", body_lengths),
+    ("damaged blocks", damaged_blocks),
+    ("counts of entries", entries),
+    ("cut replies", cuts),
+    ("long telegrams", long),
+    ("function bytes", functions),
+    ("one byte changed", one_byte),
+    ("faults together", faults),
+    ("exchanges", exchanges),
+    ("any telegrams", any_telegrams),
+];
+
 /// All lists.
 pub fn lists(random: &mut Random) -> Vec<Case> {
     let mut cases = ends(random);
-    let kinds = [
-        ("lengths of routes", routes(random)),
-        ("damaged routes", damaged_routes(random)),
-        ("counts and outputs", counts(random)),
-        ("every count", every_count(random)),
-        ("starts and values", starts(random)),
-        ("outputs", outputs(random)),
-        ("any requests", any_requests(random)),
-        ("rotations", rotations(random)),
-        ("lengths of bodies", body_lengths(random)),
-        ("damaged blocks", damaged_blocks(random)),
-        ("counts of entries", entries(random)),
-        ("cut replies", cuts(random)),
-        ("long telegrams", long(random)),
-        ("function bytes", functions(random)),
-        ("one byte changed", one_byte(random)),
-        ("faults together", faults(random)),
-        ("exchanges", exchanges(random)),
-        ("any telegrams", any_telegrams(random)),
-    ];
-    cases.extend(listed::cases(Mode::Centre, LIST, kinds));
+    cases.extend(listed::cases(Mode::Centre, LIST, KINDS, random));
     cases
 }
 
@@ -91,7 +93,7 @@ const OVER: [&[(usize, u8)]; 5] = [
 
 impl Random {
     /// A route of different stations, as far as there are so many.
-    fn route(&mut self, stations: usize) -> Vec<u8> {
+    pub fn route(&mut self, stations: usize) -> Vec<u8> {
         if stations <= MAX_ROUTE + 1 {
             return self.block(stations, stations, 0);
         }
@@ -103,7 +105,7 @@ impl Random {
     }
 
     /// A request with so many values and an output that just holds it.
-    fn request(&mut self, route: Vec<u8>, values: usize) -> Request {
+    pub fn request(&mut self, route: Vec<u8>, values: usize) -> Request {
         let mut request = Request {
             route,
             read_start: self.word(),
@@ -147,7 +149,7 @@ impl Random {
     }
 
     /// A reply in any form that the centre accepts.
-    fn some_home_reply(&mut self) -> Vec<u8> {
+    pub fn some_home_reply(&mut self) -> Vec<u8> {
         let (extended, n) = self.some_form();
         let (stations, count) = (1 + self.below(n - 1), self.some_count());
         let mut reply = self.home_reply(extended, stations, n, count);
@@ -606,7 +608,7 @@ fn exchanges(random: &mut Random) -> Vec<Call> {
 
 impl Random {
     /// A request over a route that its destination accepts, most often.
-    fn exchange(&mut self, route: Vec<u8>) -> Request {
+    pub fn exchange(&mut self, route: Vec<u8>) -> Request {
         let read = match self.below(8) {
             0 => (self.word(), 0),
             1 => (self.word(), self.below(4) as u8),

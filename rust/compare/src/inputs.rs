@@ -32,9 +32,10 @@ pub struct Case {
 }
 
 /// Gives the next byte of some data; the byte it takes is drawn once for the data.
-type Filling = fn(&mut Random, u8) -> u8;
+pub type Filling = fn(&mut Random, u8) -> u8;
 
-const FILLINGS: [(&str, Filling); 6] = [
+/// The kinds of data.
+pub const FILLINGS: [(&str, Filling); 6] = [
     ("random", |random, _| random.byte()),
     ("all 10", |_, _| DLE),
     ("mostly 10", |random, _| match random.below(8) {
@@ -72,12 +73,14 @@ impl Random {
         self.below(256) as u8
     }
 
-    fn fill(&mut self, length: usize, filling: Filling) -> Vec<u8> {
+    /// Data of so many bytes.
+    pub fn fill(&mut self, length: usize, filling: Filling) -> Vec<u8> {
         let constant = self.byte();
         (0..length).map(|_| filling(self, constant)).collect()
     }
 
-    fn fill_somehow(&mut self, length: usize) -> Vec<u8> {
+    /// Data of so many bytes, with any of the fillings.
+    pub fn fill_somehow(&mut self, length: usize) -> Vec<u8> {
         let (_, filling) = FILLINGS[self.below(FILLINGS.len())];
         self.fill(length, filling)
     }
@@ -137,7 +140,7 @@ pub fn listening(random: &mut Random) -> Vec<Case> {
 }
 
 /// A part of a stream: STX and a frame, sound or spoilt, or a burst of bytes.
-fn part(random: &mut Random) -> Vec<u8> {
+pub fn part(random: &mut Random) -> Vec<u8> {
     let length = match random.below(8) {
         0 => 0,
         1 => MAX_DATA,

@@ -1,6 +1,6 @@
 //! Lists of what the program is to do, as it reads them.
 
-use crate::inputs::{Case, Mode};
+use crate::inputs::{Case, Mode, Random};
 
 /// Most places of an output, and most bytes of a telegram, in a list.
 pub const MOST: usize = 1100;
@@ -56,15 +56,19 @@ pub fn case(mode: Mode, name: &str, input: Vec<u8>, piece: usize) -> Case {
     }
 }
 
+/// A name, and what makes the items of a kind from a seed.
+pub type Kind<T> = (&'static str, fn(&mut Random) -> Vec<T>);
+
 /// The items of every kind, in lists of at most so many.
 pub fn cases<T: Listed, const N: usize>(
     mode: Mode,
     most: usize,
-    kinds: [(&str, Vec<T>); N],
+    kinds: [Kind<T>; N],
+    random: &mut Random,
 ) -> Vec<Case> {
     let mut cases = Vec::new();
-    for (name, items) in kinds {
-        for items in items.chunks(most) {
+    for (name, make) in kinds {
+        for items in make(random).chunks(most) {
             cases.push(case(mode, name, encode(items), usize::MAX));
         }
     }

@@ -2,7 +2,7 @@
 
 use crate::calls::{Bank, Call, TABLE};
 use crate::inputs::{Case, Mode, Random};
-use crate::listed::{self, case, encode, MOST};
+use crate::listed::{self, case, encode, Kind, MOST};
 use crate::telegrams::{
     all_runs, body, counted, faulty_bodies, first_entry, forms, mark_of, marked,
 };
@@ -15,28 +15,30 @@ const OWN: u8 = 0x55;
 /// Most calls of one list.
 const LIST: usize = 50_000;
 
+/// The kinds of calls, each with what makes them.
+pub const KINDS: [Kind<Call>; 16] = [
+    ("rotations", rotations),
+    ("damaged blocks", damaged),
+    ("lengths of telegrams", lengths),
+    ("counts of entries", counts),
+    ("first bytes", first_bytes),
+    ("addresses and tables", setups),
+    ("register numbers", |_| numbers()),
+    ("runs", runs),
+    ("lengths of bodies", body_lengths),
+    ("values", values),
+    ("two runs", two_runs),
+    ("one bad value", bad_values),
+    ("faults together", |_| faults()),
+    ("outputs", outputs),
+    ("journeys", journeys),
+    ("anything", anything),
+];
+
 /// All lists.
 pub fn lists(random: &mut Random) -> Vec<Case> {
     let mut cases = ends();
-    let kinds = [
-        ("rotations", rotations(random)),
-        ("damaged blocks", damaged(random)),
-        ("lengths of telegrams", lengths(random)),
-        ("counts of entries", counts(random)),
-        ("first bytes", first_bytes(random)),
-        ("addresses and tables", setups(random)),
-        ("register numbers", numbers()),
-        ("runs", runs(random)),
-        ("lengths of bodies", body_lengths(random)),
-        ("values", values(random)),
-        ("two runs", two_runs(random)),
-        ("one bad value", bad_values(random)),
-        ("faults together", faults()),
-        ("outputs", outputs(random)),
-        ("journeys", journeys(random)),
-        ("anything", anything(random)),
-    ];
-    cases.extend(listed::cases(Mode::Station, LIST, kinds));
+    cases.extend(listed::cases(Mode::Station, LIST, KINDS, random));
     cases
 }
 
@@ -348,7 +350,7 @@ fn faults() -> Vec<Call> {
 
 /// Calls that send, with an output of the exact length, of one place less and more, and of others.
 fn outputs(random: &mut Random) -> Vec<Call> {
-    let mut bank = Bank::new();
+    let mut bank = Bank::factory();
     let mut calls = Vec::new();
     while calls.len() < 12_000 {
         let mut telegram = random.some_telegram();
@@ -375,7 +377,7 @@ fn outputs(random: &mut Random) -> Vec<Call> {
 
 /// Journeys of every size, most of them of fresh requests.
 fn journeys(random: &mut Random) -> Vec<Call> {
-    let mut bank = Bank::new();
+    let mut bank = Bank::factory();
     let mut calls = Vec::new();
     for (extended, n) in forms() {
         for stations in 1..n {

@@ -1,46 +1,121 @@
-//! `compare RUN_CASES DRY_RUN [SEED]` runs the two proved programs on many inputs
-//! and compares what they print with what the reference says, byte for byte.
+//! Compares the proved library and programs with the reference.
+//!
+//! - `compare RUN_CASES DRY_RUN [SEED]` makes direct calls of the library, runs the two proved
+//!   programs on many inputs, and compares all that they answer, change and print.
+//! - `compare --direct [SEED]` makes the direct calls only.
+//! - `compare --soak [MINUTES] [SEED]` makes direct calls with new seeds until the time is over.
 
 #![forbid(unsafe_code)]
 
-mod calls;
-mod centre;
-mod centre_lists;
-mod inputs;
-mod limits;
-mod listed;
-mod lists;
-mod nets;
-mod program;
-mod run;
-mod runs;
-mod telegrams;
-mod text;
-
-use calls::Call;
-use inputs::{Case, Mode, Random};
-use run::{run, shrink, shrink_list};
-use runs::Run;
+use compare::calls::Call;
+use compare::direct::check::{Checker, Stop, Tested};
+use compare::direct::{self, soak::soak};
+use compare::implementations::Plain;
+use compare::inputs::{self, Case, Mode, Random};
+use compare::kinds::{Tally, ANOTHER, KINDS, MOST_TRANSMISSIONS};
+use compare::library::Library;
+use compare::run::{run, shrink, shrink_list};
+use compare::runs::Run;
+use compare::text::{expected, hex};
+use compare::{centre, centre_lists, lists, nets, program};
 use std::collections::BTreeSet;
 use std::error::Error;
 use std::io;
 use std::process::ExitCode;
-use text::{expected, hex, Tally, KINDS};
+use std::time::{Duration, Instant};
+
+const USAGE: &str = "usage: compare RUN_CASES DRY_RUN [SEED]
+       compare --direct [SEED]
+       compare --soak [MINUTES] [SEED]";
+
+/// The seed, where none is given.
+const SEED: u64 = 3964;
+
+/// How many seeds the direct calls of one run are made from.
+const SEEDS: u64 = 12;
+
+/// Minutes of a long run, where none are given.
+const MINUTES: f64 = 10.0;
 
 /// Most runs that are spent on making a failing input smaller.
 const TRIES: u32 = 400;
 
-/// Most transmissions of a journey.
-const MOST_TRANSMISSIONS: usize = 62;
-
 fn main() -> Result<ExitCode, Box<dyn Error>> {
-    let args: Vec<String> = std::env::args().collect();
-    let (run_cases, dry_run, seed) = match &args[1..] {
-        [run_cases, dry_run] => (run_cases, dry_run, 3964),
-        [run_cases, dry_run, seed] => (run_cases, dry_run, seed.parse()?),
-        _ => return Err("usage: compare RUN_CASES DRY_RUN [SEED]".into()),
+    let args: Vec<String> = std::env::args().skip(1).collect();
+    let args: Vec<&str> = args.iter().map(String::as_str).collect();
+    let right = match args[..] {
+        ["--direct"] => direct_calls(SEED),
+        ["--direct", seed] => direct_calls(seed.parse()?),
+        ["--soak"] => long_run(MINUTES, SEED),
+        ["--soak", minutes] => long_run(minutes.parse()?, SEED),
+        ["--soak", minutes, seed] => long_run(minutes.parse()?, seed.parse()?),
+        [run_cases, dry_run] => everything(run_cases, dry_run, SEED)?,
+        [run_cases, dry_run, seed] => everything(run_cases, dry_run, seed.parse()?)?,
+        _ => return Err(USAGE.into()),
     };
-    println!("seed {seed}");
+    Ok(if right {
+        ExitCode::SUCCESS
+    } else {
+        ExitCode::FAILURE
+    })
+}
+
+/// The direct calls, and then the programs.
+fn everything(run_cases: &str, dry_run: &str, seed: u64) -> io::Result<bool> {
+    let start = Instant::now();
+    let right = direct_calls(seed) && programs(run_cases, dry_run, seed)?;
+    println!(
+        "the comparison took {:.1} s in all",
+        start.elapsed().as_secs_f64()
+    );
+    Ok(right)
+}
+
+/// The implementations that are compared with the reference.
+fn tested() -> Vec<Tested<'static>> {
+    vec![
+        Tested {
+            name: "the proved library",
+            calls: &Library,
+        },
+        Tested {
+            name: "the plain Rust",
+            calls: &Plain,
+        },
+    ]
+}
+
+/// Makes the direct calls of a seed and of some that follow it; false at the first wrong one.
+fn direct_calls(seed: u64) -> bool {
+    println!("direct calls of the library, of plain Rust and of the reference");
+    let mut checker = Checker::new(tested(), seed);
+    for seed in (0..SEEDS).map(|more| seed.wrapping_add(more)) {
+        let before = checker.calls();
+        checker.reseed(seed);
+        if let Err(Stop::Wrong(difference)) = direct::pass(seed, &mut checker) {
+            println!("{difference}");
+            return false;
+        }
+        let calls = checker.calls() - before;
+        println!("  seed {seed}: {calls} calls of each, all as expected");
+    }
+    let (calls, seconds) = (checker.calls(), checker.elapsed().as_secs_f64());
+    println!("direct calls: {calls} of each, {seconds:.1} s, no difference");
+    checker.all_reached()
+}
+
+/// Makes direct calls until the time is over; false at the first wrong one.
+fn long_run(minutes: f64, seed: u64) -> bool {
+    println!("direct calls of the library, of plain Rust and of the reference");
+    println!("for {minutes} minutes, from seed {seed} on");
+    let time = Duration::from_secs_f64(60.0 * minutes);
+    soak(Checker::new(tested(), seed), time, seed)
+}
+
+/// Runs the programs on many inputs; false at the first wrong text.
+fn programs(run_cases: &str, dry_run: &str, seed: u64) -> io::Result<bool> {
+    let start = Instant::now();
+    println!("texts of the programs, seed {seed}");
     let mut random = Random::new(seed);
     let mut tally = Tally::default();
     let limits = inputs::limits();
@@ -58,11 +133,11 @@ fn main() -> Result<ExitCode, Box<dyn Error>> {
         && compare(dry_run, "program", &played, &mut tally)?
         && compare(run_cases, "centre", &centre, &mut tally)?
         && all_reached(&tally);
-    Ok(if right {
-        ExitCode::SUCCESS
-    } else {
-        ExitCode::FAILURE
-    })
+    println!(
+        "texts of the programs: {:.1} s",
+        start.elapsed().as_secs_f64()
+    );
+    Ok(right)
 }
 
 /// Runs the cases, one after the other; false at the first wrong text.
@@ -141,5 +216,5 @@ fn all_reached(tally: &Tally) -> bool {
         let reached = &tally.transmissions;
         println!("dry runs had only these numbers of transmissions: {reached:?}");
     }
-    missing.is_empty() && numbers
+    missing.is_empty() && numbers && !tally.kinds.contains_key(ANOTHER)
 }

@@ -1,7 +1,7 @@
 //! Lists of dry runs, made from a seed.
 
 use crate::inputs::{Case, Mode, Random};
-use crate::listed::{self, case, encode, MOST};
+use crate::listed::{self, case, encode, Kind, MOST};
 use crate::runs::{Run, PLACES, STATIONS};
 use crate::telegrams::{body, FUNCTIONS, REPLY, REQUEST};
 use crate::telegrams::{faulty_bodies, forms, mark_of, marked, telegram, writable_runs};
@@ -12,24 +12,26 @@ use reference::registers::{factory, COUNT, ROWS};
 /// Most runs of one list.
 const LIST: usize = 2_000;
 
+/// The kinds of dry runs, each with what makes them.
+pub const KINDS: [Kind<Run>; 12] = [
+    ("fresh requests", fresh),
+    ("rotations", rotations),
+    ("stations that are missing", missing),
+    ("bodies", bodies),
+    ("wrong marks", marks),
+    ("lengths of telegrams", lengths),
+    ("damaged telegrams", damaged),
+    ("numbers of stations and values", sizes),
+    ("addresses", addresses),
+    ("outputs", outputs),
+    ("faults together", faults),
+    ("anything", anything),
+];
+
 /// All lists.
 pub fn lists(random: &mut Random) -> Vec<Case> {
     let mut cases = ends(random);
-    let kinds = [
-        ("fresh requests", fresh(random)),
-        ("rotations", rotations(random)),
-        ("stations that are missing", missing(random)),
-        ("bodies", bodies(random)),
-        ("wrong marks", marks(random)),
-        ("lengths of telegrams", lengths(random)),
-        ("damaged telegrams", damaged(random)),
-        ("numbers of stations and values", sizes(random)),
-        ("addresses", addresses(random)),
-        ("outputs", outputs(random)),
-        ("faults together", faults(random)),
-        ("anything", anything(random)),
-    ];
-    cases.extend(listed::cases(Mode::Net, LIST, kinds));
+    cases.extend(listed::cases(Mode::Net, LIST, KINDS, random));
     cases
 }
 
@@ -136,7 +138,7 @@ impl Random {
     }
 
     /// A dry run of a telegram in any form; its block may begin anywhere.
-    fn some_run(&mut self, body: &[u8]) -> Run {
+    pub fn some_run(&mut self, body: &[u8]) -> Run {
         let (extended, n) = self.some_form();
         let block = self.some_block(n);
         let function = self.pick(&[REQUEST, REQUEST, REPLY]);

@@ -1,0 +1,38 @@
+//! The 64-bit answer of a call: a value in bits 0 to 31, and its kind in bits 32 to 39.
+
+/// The kind of a call that somebody else, or nobody, has to handle.
+pub const KIND_NOT_MINE: u8 = 255;
+/// The answer of such a call.
+pub const NOT_MINE: u64 = (KIND_NOT_MINE as u64) << 32;
+
+/// The call did what it was asked to.
+#[inline(always)]
+pub const fn done(value: usize) -> u64 {
+    value as u64
+}
+
+/// The call was refused with this number.
+#[inline(always)]
+pub const fn refused(number: u8) -> u64 {
+    (number as u64) << 32
+}
+
+/// The kind of an answer: 0 for done, 255 for not mine, or the number of a refusal.
+pub const fn kind(answer: u64) -> u8 {
+    (answer >> 32) as u8
+}
+
+/// The value of an answer.
+pub const fn value(answer: u64) -> usize {
+    answer as u32 as usize
+}
+
+/// What a receiving half answers to an event, in the value of the answer.
+pub mod heard {
+    /// Stay silent.
+    pub const NOTHING: usize = 0;
+    /// Send a byte, which is added to this.
+    pub const SEND: usize = 256;
+    /// Send 10; the number of bytes of the message is added to this.
+    pub const MESSAGE: usize = 65536;
+}
