@@ -39,7 +39,7 @@ module _ (h : Head) (body t out : List ℕ) where
   unfolding relaying sending
   relay-sent g e l = rw (e, fitted-room (telegramOf g body) out l)
 
-  answer-sent : (let x = telegramOf (replied h) (replyBody body (afterWrites body t)) in length x ≤ length out →
+  pub answer-sent : (let x = telegramOf (replied h) (replyBody body (afterWrites body t)) in length x ≤ length out →
       answering accepts h body t out ≡ leaving (sent (length x)) (afterWrites body t) (placed x out))
   unfolding answering sending keptBy
   answer-sent l = rw (fitted-room (telegramOf (replied h) (replyBody body (afterWrites body t))) out l)

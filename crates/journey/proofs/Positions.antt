@@ -2,14 +2,15 @@
 -- Assumes nothing.
 use mathlib.Core.Path.{_≡_, refl, sym, _∙_, subst}
 use mathlib.Core.Bool.{true}
-use mathlib.Core.List.{List, [], _∷_, _++_, reverse, reverse-cons, append-assoc}
+use mathlib.Core.List.{List, [], _∷_, _++_, reverse, reverse-cons, reverse-reverse, append-assoc}
 use Prim.Native.Nat.{ℕ, suc, _+_, _≤_}
 use native.Mathlib.Omega.{arith}
 use lib.ListN.{length, length-append, length-replicate, length-reverse}
-use Rattle.mop_block.specs.Block.{first, next, rollLeft, rollRight}
-use Rattle.mop_block.specs.Zipper.{spread, returned, Full, Once}
-use Rattle.mop_block.proofs.Stations.{full-reverse}
-use Rattle.mop_block.proofs.Zipper.{view-is-good, returned-is-good, left-moves, right-moves}
+use Rattle.mop_block.specs.Block.{goodBlock, first, next, rollLeft, rollRight}
+use Rattle.mop_block.specs.Zipper.{spread, returned, Full, nil, cons, Once, Zipper}
+use Rattle.mop_block.proofs.Rolls.{length-left, length-right}
+use Rattle.mop_block.proofs.Stations.{full-append, full-reverse}
+use Rattle.mop_block.proofs.Zipper.{has-view, view-is-good, returned-is-good, left-moves, right-moves, right-returns}
 use Rattle.mop_header.specs.Reading.{maxTelegram}
 use Rattle.mop_header.specs.ReadBack.{sized}
 use Rattle.mop_header.specs.declared.Form.{Form}
@@ -65,3 +66,37 @@ module _ (form : Form) (z : ℕ) (ring : List ℕ) (n : ℕ) (once : Once ring) 
   faultless-home ahead body f e count short =
       let long : length (returned ahead z) ≡ n = simp (length-append, length-replicate) (omega arith) in
       record { good = returned-is-good ahead z f (subst Once (sym e) once); size = rw long size; short = rw long short }
+
+-- a block that begins with a station, rolled either way
+good-left : {b : List ℕ} → Zipper b → goodBlock (rollLeft b) ≡ true
+good-left v =
+    let a = suc (v .here) in
+    let once = subst Once (sym (append-assoc (v .passed) (a ∷ []) (v .ahead))) (v .once) in
+    rw (v .is, left-moves a (v .ahead) (v .gap) (v .passed))
+    (view-is-good (v .ahead) (v .gap) (v .passed ++ (a ∷ [])) (v .full-ahead) (full-append (v .full-passed) (cons nil)) once)
+
+right-by : (ahead : List ℕ) (z : ℕ) {back : List ℕ} → Full ahead → Full back → Once (reverse back ++ ahead) →
+    goodBlock (rollRight (spread ahead z (reverse back))) ≡ true
+right-by ahead z f nil once = rw (right-returns ahead z) (returned-is-good ahead z f once)
+right-by ahead z f (cons {a = s} {xs = back} g) once =
+    rw (moved-back s ahead back z)
+    (view-is-good (suc s ∷ ahead) z (reverse back) (cons f) (full-reverse g) (subst Once (same-ring s ahead back) once))
+
+good-right : {b : List ℕ} → Zipper b → goodBlock (rollRight b) ≡ true
+good-right v =
+    let ahead = suc (v .here) ∷ v .ahead in
+    let passed = sym (reverse-reverse (v .passed)) in
+    rw (v .is) (subst (λ (l : List ℕ). goodBlock (rollRight (spread ahead (v .gap) l)) ≡ true) (sym passed)
+    (right-by ahead (v .gap) (cons (v .full-ahead)) (full-reverse (v .full-passed)) (subst (λ (l : List ℕ). Once (l ++ ahead)) passed (v .once))))
+
+-- so the telegram stays faultless
+module _ {form : Form} {b body : List ℕ} (w : Faultless form b body) where
+  stays : (d : List ℕ) → length d ≡ length b → goodBlock d ≡ true → Faultless form d body
+  stays d e g = record { good = g; size = rw e (w .size); short = rw e (w .short) }
+
+  module _ (some : first b ≡ 0 → ⊥) where
+    pub faultless-left : Faultless form (rollLeft b) body
+    faultless-left = stays (rollLeft b) (length-left b) (good-left (has-view b (w .good) some))
+
+    pub faultless-right : Faultless form (rollRight b) body
+    faultless-right = stays (rollRight b) (length-right b) (good-right (has-view b (w .good) some))

@@ -47,7 +47,7 @@ has-count a [] = refl
 has-count a (x ∷ xs) = has-first a xs (eqb a x) (has-count a xs)
 
 -- the 00s are no stations
-pub has-stations : (a : ℕ) (xs : List ℕ) → has (suc a) (stations xs) ≡ has (suc a) xs
+has-stations : (a : ℕ) (xs : List ℕ) → has (suc a) (stations xs) ≡ has (suc a) xs
 unfolding has stations
 has-stations a [] = refl
 has-stations a (zero ∷ xs) = rw (eqb·suc-zero a) (has-stations a xs)

@@ -2,9 +2,10 @@
 -- Assumes nothing.
 use mathlib.Core.Path.{_≡_, refl, _∙_}
 use mathlib.Core.List.{List, [], _∷_, _++_, append-nil}
-use Prim.Native.Nat.{ℕ, zero, suc, _+_, _≤_}
+use Prim.Native.Nat.{ℕ, zero, suc, _+_, _-_, _≤_, _<_}
 use native.Mathlib.Omega.{arith}
-use Rattle.mop_block.specs.Block.{zeroEnds}
+use lib.ListN.{length, getD}
+use Rattle.mop_block.specs.Block.{zeroEnds, around}
 use Rattle.mop_block.specs.Zipper.{zeros, Full, nil, cons}
 
 pub ends-single : (x : ℕ) → zeroEnds (x ∷ []) ≡ 0
@@ -43,3 +44,16 @@ unfolding zeroEnds
 ends-next zero zero ys = omega arith
 ends-next zero (suc a) ys = omega arith
 ends-next (suc a) y ys = rw (ends-single y) (omega arith)
+
+-- an entry more at the end
+ends-snoc : (x : ℕ) (ys : List ℕ) (z : ℕ) → zeroEnds (x ∷ (ys ++ (z ∷ []))) ≡ zeroEnds (x ∷ ys) + zeroEnds (getD (x ∷ ys) (length ys) 0 ∷ z ∷ [])
+ends-snoc x [] z = rw (ends-single x) (omega arith)
+ends-snoc x (y ∷ ys) z = omega (arith, ends-next x y (ys ++ (z ∷ [])), ends-next x y ys, ends-snoc y ys z)
+
+-- around the ring: the first entry behind the last one, or the last one before the first
+pub ends-ring : (b : List ℕ) → 0 < length b → zeroEnds (getD b (length b - 1) 0 ∷ b) ≡ zeroEnds (around b)
+unfolding around
+ends-ring [] h = absurd (omega arith)
+ends-ring (x ∷ xs) h =
+    let e : suc (length xs) - 1 ≡ length xs = omega arith in
+    rw e (omega (arith, ends-next (getD (x ∷ xs) (length xs) 0) x xs, ends-snoc x xs x))

@@ -1,7 +1,7 @@
 -- The stations of a block, and lists without a 00.
 -- Assumes nothing.
 use mathlib.Core.Path.{_≡_, refl, sym, _∙_, ap}
-use mathlib.Core.Bool.{true, false, not, _&&_, and-false, and-eq-true-iff, false≢true}
+use mathlib.Core.Bool.{true, not, _&&_, and-eq-true-iff, false≢true}
 use mathlib.Core.List.{List, [], _∷_, _++_, reverse, append-nil, reverse-cons}
 use Prim.Native.Nat.{ℕ, zero, suc, _≤_, _<_}
 use native.Mathlib.Omega.{arith}
@@ -62,21 +62,9 @@ named-bound b g = fewer b (good-parts b g .zero-in)
 pub good-length : (b : List ℕ) → goodBlock b ≡ true → 0 < length b
 good-length b g = omega (arith, named-bound b g)
 
--- a 00 is no address; without one a list is all stations
-pub zero-distinct : (l : List ℕ) → has 0 l ≡ true → distinctAddresses l ≡ false
-unfolding has distinctAddresses isAddress
-zero-distinct [] h = absurd (false≢true h)
-zero-distinct (zero ∷ l) h = refl
-zero-distinct (suc a ∷ l) h = rw (zero-distinct l (rw (eqb·zero-suc a) at h)) (and-false (isAddress (suc a) && not (has (suc a) l)))
-
+-- a 00 is no address
 pub distinct-full : (l : List ℕ) → distinctAddresses l ≡ true → Full l
 unfolding distinctAddresses isAddress
 distinct-full [] d = nil
 distinct-full (zero ∷ l) d = absurd (false≢true d)
 distinct-full (suc a ∷ l) d = cons (distinct-full l (and-eq-true-iff (isAddress (suc a) && not (has (suc a) l)) (distinctAddresses l) .0 d .1))
-
-pub stations-all : (l : List ℕ) → has 0 l ≡ false → stations l ≡ l
-unfolding has stations
-stations-all [] h = refl
-stations-all (zero ∷ l) h = absurd (false≢true (sym h))
-stations-all (suc a ∷ l) h = ap (λ (k : List ℕ). suc a ∷ k) (stations-all l (rw (eqb·zero-suc a) at h))

@@ -1,4 +1,4 @@
--- Copies into the places of a list: a block, and two parts one behind the other.
+-- Copies into the places of a list: a block, two parts one behind the other, and four entries by four stores.
 -- Assumes nothing.
 use mathlib.Core.Path.{_≡_, refl, sym, _∙_, ap, subst}
 use mathlib.Core.Bool.{Bool, true, false}
@@ -6,7 +6,7 @@ use mathlib.Core.List.{List, [], _∷_, _++_}
 use Prim.Native.Nat.{ℕ, zero, suc, _+_, _-_, _≤_, _<_}
 use native.Mathlib.Nat.{suc-add, zero-add}
 use native.Mathlib.Omega.{arith}
-use lib.ListN.{length, take, drop, length-append, length-drop}
+use lib.ListN.{length, getD, take, drop, length-append, length-drop}
 use borrow.Author.Tests.{leb-true, leb-false}
 use lib.Dec.{leb}
 use lib.Seq.{sets, length-sets, length-take-le, take-all, take-nil, take-take}
@@ -53,3 +53,15 @@ rolled-copies old new n by h k e =
     sets-append old 0 (take (n - by) (drop by old)) (take by old) ∙ rw (left, zero-add, ← e) in
     rw (parts, ← twice) (subst (λ (m : ℕ). take m (sets old 0 (take (n - by) (drop by old) ++ take by old)) ≡ take (n - by) (drop by old) ++ take by old) all
     (take-sets (take (n - by) (drop by old) ++ take by old) old (omega arith)))
+
+four-entries : (b : List ℕ) → length b ≡ 4 → b ≡ getD b 0 0 ∷ getD b 1 0 ∷ getD b 2 0 ∷ getD b 3 0 ∷ []
+four-entries [] e = absurd (omega arith)
+four-entries (w ∷ []) e = absurd (omega arith)
+four-entries (w ∷ x ∷ []) e = absurd (omega arith)
+four-entries (w ∷ x ∷ y ∷ []) e = absurd (omega arith)
+four-entries (w ∷ x ∷ y ∷ z ∷ []) e = refl
+four-entries (w ∷ x ∷ y ∷ z ∷ v ∷ b) e = absurd (omega arith)
+
+pub four-stored : (l : List ℕ) (i : ℕ) (b : List ℕ) → length b ≡ 4 →
+    sets l i (getD b 0 0 ∷ getD b 1 0 ∷ getD b 2 0 ∷ getD b 3 0 ∷ []) ≡ sets l i b
+four-stored l i b e = ap (sets l i) (sym (four-entries b e))

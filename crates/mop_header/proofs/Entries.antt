@@ -4,8 +4,8 @@ use mathlib.Core.Path.{_≡_, refl, sym, _∙_, ap}
 use mathlib.Core.List.{List, [], _∷_}
 use Prim.Native.Nat.{ℕ, zero, suc, _<_}
 use native.Mathlib.Omega.{arith}
-use lib.ListN.{length, getD, take, drop, length-take, take-append-drop}
-use lib.Seq.{getD-take, take-append-seam}
+use lib.ListN.{length, getD, take, drop, length-take, take-append-drop, drop-of-length-le}
+use lib.Seq.{getD-take, take-all, take-append-seam}
 use Rattle.mop_block.specs.Block.{first, next, rolled, rollLeft, rollRight}
 
 module _ (k : ℕ) (l : List ℕ) where
@@ -49,3 +49,8 @@ module _ (b : List ℕ) (none : length b ≡ 0) where
   pub right-none : rollRight b ≡ b
   unfolding rollRight rolled
   right-none = rw (empty b none)
+
+-- and so does any block that is rolled further than it is long
+pub rolled-beyond : (k : ℕ) (b : List ℕ) → length b < k → rolled k b ≡ b
+unfolding rolled
+rolled-beyond k b h = rw (drop-of-length-le b {i = k} (omega arith), take-all k b (omega arith))

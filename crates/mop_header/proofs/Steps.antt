@@ -1,15 +1,18 @@
 -- Reading a header, step by step: what each test gives.
 -- Assumes nothing.
-use mathlib.Core.Path.{_≡_}
-use mathlib.Core.Bool.{true, false, and-false}
+use mathlib.Core.Path.{_≡_, refl, sym, _∙_}
+use mathlib.Core.Bool.{Bool, true, false, not, and-false}
 use mathlib.Core.List.{List}
 use Prim.Native.Nat.{ℕ, _+_, _≤_, _<_}
-use borrow.Author.Tests.{lt-ltb, le-ltb, le-leb, lt-leb}
-use lib.Dec.{leb}
+use borrow.Author.Tests.{lt-ltb, le-ltb, le-leb, lt-leb, not-false}
+use lib.Dec.{eqb, leb}
 use lib.ListN.{length, getD, take, drop}
+use Rattle.base.specs.Choice.{pick}
 use Rattle.mop_header.specs.Header.{Head, head, isMark, markAgrees}
 use Rattle.mop_header.specs.Reading.{sound, faulty, allowed, functionAt, goodFor, judged, standardReading, countAt, extendedReading, maxTelegram, reading}
-use Rattle.mop_header.specs.declared.Form.the-variants.{Extended}
+use Rattle.mop_header.specs.declared.Form.the-variants.{Standard, Extended}
+use Rattle.mop_header.specs.declared.Function.{Function}
+use Rattle.mop_header.specs.declared.Function.the-variants.{Request, Reply}
 use Rattle.mop_header.specs.declared.Reader.{Reader}
 
 -- the block, then the mark
@@ -54,6 +57,14 @@ module _ (who : Reader) (tg : List ℕ) where
         unfolding reading
         as-standard e = rw (le-ltb maxTelegram (length tg) small, le-ltb (length tg) 6 six, function, e)
 
+      -- the same by what the calls give
+      pub by-form : {taken mark : Bool} {f : Function} → taken ≡ allowed who (getD tg 0 0) → not taken ≡ false →
+          f ≡ pick (eqb (getD tg 0 0) 0xE0) Reply Request → mark ≡ isMark f (getD tg 2 0) (getD tg 3 0) (getD tg 4 0) (getD tg 5 0) →
+          reading who tg ≡ pick mark (extendedReading who tg) (standardReading who tg)
+      unfolding reading functionAt
+      by-form {taken} a t f m =
+          rw (le-ltb maxTelegram (length tg) small, le-ltb (length tg) 6 six, sym a ∙ not-false taken t, m, f)
+
   -- behind the mark
   pub count-cut : length tg < 7 → extendedReading who tg ≡ faulty 2
   unfolding extendedReading
@@ -77,3 +88,8 @@ module _ (who : Reader) (tg : List ℕ) where
           extendedReading who tg ≡ judged who (head (functionAt tg) (getD tg 1 0) (Extended (getD tg 2 0)) (take (countAt tg) (drop 7 tg)))
       unfolding extendedReading
       behind-mark l = rw (le-ltb (length tg) 7 seven, le-leb 2 (countAt tg) least, le-leb (countAt tg) 32 most, le-ltb (length tg) (7 + countAt tg) l)
+
+-- without a mark the four entries are the block
+pub without-mark : (who : Reader) (tg : List ℕ) → standardReading who tg ≡ judged who (head (functionAt tg) (getD tg 1 0) Standard (take 4 (drop 2 tg)))
+unfolding standardReading
+without-mark who tg = refl

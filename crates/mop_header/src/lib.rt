@@ -13,8 +13,9 @@ ghost use Rattle.refusal.specs.Numbers.{numberOf};
 ghost use Rattle.refusal.specs.Writing.{fillingOf};
 ghost use Rattle.mop_block.specs.Block.{rolled, first, next};
 ghost use Rattle.mop_header.specs.declared.Function.the-variants.{Request, Reply};
+ghost use Rattle.mop_header.specs.declared.Form.the-variants.{Standard, Extended};
 ghost use Rattle.mop_header.specs.Header.{head, maxEntries, headOf, functionByte, headerBytes, headerLength, telegramOf, isMark, markByte, markIs, withMark, remarked, rolledLeft, rolledRight, asReply};
-ghost use Rattle.mop_header.specs.Reading.{readingOf, faulty, allowed, goodFor, judged, standardReading, extendedReading, reading};
+ghost use Rattle.mop_header.specs.Reading.{readingOf, faulty, allowed, goodFor, judged, reading};
 
 // The mark's bytes, but for the first one that may be 00.
 pub const MARK: u8 = 0xEF;
@@ -234,6 +235,17 @@ impl Header {
         self.rolled(n, n - 1)
     }
 
+    // The block rolled so many places to the left; a block that has not so many entries stays.
+    pub fn rolled_by(self, by: usize) -> Self
+        ensures { λ r. ⌜ headOf r ≡ head (self .function) (self .control) (self .form) (rolled by (headOf self .block)) ⌝ }
+    {
+        let n = self.entry_count();
+        if n < by {
+            return self;
+        }
+        self.rolled(n, by)
+    }
+
     // The mark set by the block's first entry.
     pub fn remarked(self) -> Self
         ensures { λ r. ⌜ headOf r ≡ remarked (headOf self) ⌝ }
@@ -270,6 +282,13 @@ fn write_standard(function: u8, control: u8, block: &[u8], out: &mut [u8])
 {
     out[0] = function;
     out[1] = control;
+    if block.len() == 4 {
+        out[2] = block[0];
+        out[3] = block[1];
+        out[4] = block[2];
+        out[5] = block[3];
+        return;
+    }
     places::put(block, &mut *out, 2);
 }
 
@@ -434,40 +453,14 @@ fn judge(reader: Reader, function: Function, control: u8, form: Form, block: &[u
     }
 }
 
-// The four entries are the block.
-fn read_standard(reader: Reader, telegram: &[u8]) -> HeaderRead
-    requires { ⌜ 6 ≤ length (now telegram) ⌝ }
-    ensures { λ r. ⌜ readingOf r ≡ standardReading reader (now (telegram .entry)) ⌝ }
+// The form of a header, by whether its four entries are the mark.
+fn form_of(extended: bool, mark: u8) -> Form
+    ensures { λ r. ⌜ r ≡ pick extended (Extended mark) Standard ⌝ }
 {
-    let function = function_of(telegram[0]);
-    let control = telegram[1];
-    judge(reader, function, control, Form::Standard, &telegram[2..6])
-}
-
-// The four entries are the mark: 2 for the count, 4, 2 for the block.
-fn read_extended(reader: Reader, telegram: &[u8]) -> HeaderRead
-    requires { ⌜ 6 ≤ length (now telegram) ⌝ }
-    ensures { λ r. ⌜ readingOf r ≡ extendedReading reader (now (telegram .entry)) ⌝ }
-{
-    if telegram.len() < 7 {
-        return fault(Refusal::HeaderCut);
+    if extended {
+        return Form::Extended(mark);
     }
-    let byte = telegram[6];
-    let count = byte as usize;
-    if count < 2 {
-        return fault(Refusal::ExtendedCount);
-    }
-    if MAX_ENTRIES < count {
-        return fault(Refusal::ExtendedCount);
-    }
-    let end = 7 + count;
-    if telegram.len() < end {
-        return fault(Refusal::HeaderCut);
-    }
-    let function = function_of(telegram[0]);
-    let control = telegram[1];
-    let form = Form::Extended(telegram[2]);
-    judge(reader, function, control, form, &telegram[7..end])
+    Form::Standard
 }
 
 // The header of a telegram, or why it is refused: 12, 2, 3, if extended 2, 4, 2, then 5, 6.
@@ -485,8 +478,27 @@ pub fn read(reader: Reader, telegram: &[u8]) -> HeaderRead
         return fault(Refusal::Function);
     }
     let function = function_of(byte);
-    if is_mark(function, telegram[2], telegram[3], telegram[4], telegram[5]) {
-        return read_extended(reader, telegram);
+    let extended = is_mark(function, telegram[2], telegram[3], telegram[4], telegram[5]);
+    let mut start: usize = 2;
+    let mut end: usize = 6;
+    if extended {
+        if telegram.len() < 7 {
+            return fault(Refusal::HeaderCut);
+        }
+        let entries = telegram[6];
+        let count = entries as usize;
+        if count < 2 {
+            return fault(Refusal::ExtendedCount);
+        }
+        if MAX_ENTRIES < count {
+            return fault(Refusal::ExtendedCount);
+        }
+        start = 7;
+        end = 7 + count;
+        if telegram.len() < end {
+            return fault(Refusal::HeaderCut);
+        }
     }
-    read_standard(reader, telegram)
+    let form = form_of(extended, telegram[2]);
+    judge(reader, function, telegram[1], form, &telegram[start..end])
 }

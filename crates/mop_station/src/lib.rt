@@ -10,6 +10,8 @@ ghost use mathlib.Core.Path.{_≡_};
 ghost use Prim.Native.Nat.{_+_, _*_, _≤_};
 ghost use lib.ListN.{length, take, drop};
 ghost use lib.Seq.{sets};
+ghost use lib.Dec.{eqb};
+ghost use Rattle.base.specs.Choice.{pick};
 ghost use Rattle.base.specs.Words.{wordsOf};
 ghost use Rattle.base.specs.Filling.{fitted};
 ghost use Rattle.refusal.specs.Writing.{givenOf, fillingOf};
@@ -20,7 +22,7 @@ ghost use Rattle.mop_header.specs.Header.{headOf, headerLength, telegramOf, sen
 ghost use Rattle.mop_header.specs.Reading.{fine};
 ghost use Rattle.mop_body.specs.Body.{readStart, readCount, writeStart, valuesOf, replyWith};
 ghost use Rattle.mop_station.specs.Body.{acceptanceOf, accepts, judgedRuns, judgedBody};
-ghost use Rattle.mop_station.specs.Station.{handledOf, sending, handlingOf, relayed, replied, answering, taking, hearing, handling};
+ghost use Rattle.mop_station.specs.Station.{handledOf, refuses, leaving, sending, handlingOf, relayed, replied, answering, taking, hearing, handling};
 
 // What handling a telegram gives: the length of what was sent, "not mine", or a refusal.
 pub enum StationAnswer {
@@ -67,7 +69,7 @@ fn handled(answer: WriteAnswer) -> StationAnswer
 }
 
 // The header of a destination's reply.
-fn reply_header(header: Header) -> Header
+pub fn reply_header(header: Header) -> Header
     ensures { λ r. ⌜ headOf r ≡ replied (headOf header) ⌝ }
 {
     let reply = header.as_reply();
@@ -191,6 +193,22 @@ fn answer(header: Header, body: &[u8], registers: &mut [u16], out: &mut [u8]) ->
         BodyVerdict::Rejected(r) => StationAnswer::Refused(r),
         BodyVerdict::Accepted => carry_out(header, body, &mut *registers, &mut *out),
     }
+}
+
+// A request at its destination, for a caller that has read the header. What is sent, and what is refused with 7 to 11, as
+// `handle` has it. Refused with 1, and registers and out as they were: the table's length.
+pub fn answer_request(
+    header: Header,
+    body: &[u8],
+    registers: &mut [u16],
+    out: &mut [u8],
+) -> StationAnswer
+    ensures { λ r. ⌜ handlingOf r (now (registers .exit)) (now (out .exit)) ≡ pick (eqb (length (now (registers .entry))) tableLength) (answering (judgedBody (now (body .entry))) (headOf header) (now (body .entry)) (now (registers .entry)) (now (out .entry))) (leaving (refuses 1) (now (registers .entry)) (now (out .entry))) ⌝ }
+{
+    if registers.len() != TABLE_LENGTH {
+        return StationAnswer::Refused(Refusal::Setup);
+    }
+    answer(header, body, &mut *registers, &mut *out)
 }
 
 // A telegram for this station: it is the destination of a request if the next entry is 00, and else a relay.

@@ -1,16 +1,15 @@
 -- What a dry run looks at in a journey: the count, the last telegram, the ending and the net afterwards.
 -- Assumes nothing.
-use mathlib.Core.Path.{_≡_, refl, ap₂}
+use mathlib.Core.Path.{_≡_, refl, sym, _∙_, ap, ap₂}
 use mathlib.Core.List.{List, [], _∷_}
-use Prim.Native.Nat.{ℕ, zero, suc, _+_, _≤_}
+use Prim.Native.Nat.{ℕ, suc, _+_, _≤_}
 use native.Mathlib.Nat.{zero-add}
 use native.Mathlib.Omega.{arith}
 use lib.ListN.{length}
 use Rattle.base.specs.Places.{placed}
-use Rattle.mop_station.specs.Station.{Handled, sent, notMine, refuses}
+use Rattle.mop_station.specs.Station.{Handled}
 use Rattle.journey.specs.Net.{Net}
-use Rattle.journey.specs.Journey.{Ending, Handler, noStation, station, handler, Course, onward, leftBy}
-use Rattle.journey.specs.Bounded.{calling, answered, heardBy, playing}
+use Rattle.journey.specs.Journey.{Ending, Course, onward, Journey, ends, refused, sends}
 use Rattle.net.specs.Tables.{tablesOf}
 use Rattle.journey.specs.Terms.{lastTelegram}
 use Rattle.net.specs.DryRun.{DryRun, played, leaves, padded, ofCourse}
@@ -33,21 +32,17 @@ pub of-summary : (c : Course) (out : List ℕ) → ofSummary (summaryOf 0 c) out
 unfolding ofCourse
 of-summary c out = rw (zero-add (length (c .transmissions)))
 
--- a course that is played has a transmission
-answered-some : (k : ℕ) (net : Net) (tg output : List ℕ) (v : Handled) → 1 ≤ length (answered (playing k) net tg output v .transmissions)
-answered-some k net tg output (sent n) = omega arith
-answered-some k net tg output (refuses j) = omega arith
-answered-some k net tg output notMine = omega arith
+-- what a run gives, by the summary of the whole journey
+pub summary-gives : {s whole : Summary} {tables : List ℕ} (out : List ℕ) → s ≡ whole → tablesOf (s .net) ≡ tables →
+    leaves (played (s .count) (s .ending) (length (s .last))) tables (placed (padded (s .last)) out) ≡ ofSummary whole out
+summary-gives {s} out e t =
+    ap (λ (l : List ℕ). leaves (played (s .count) (s .ending) (length (s .last))) l (placed (padded (s .last)) out)) (sym t) ∙ ap (λ (x : Summary). ofSummary x out) e
 
-heard-some : (k : ℕ) (net : Net) (tg : List ℕ) (m : Handler) → 1 ≤ length (heardBy (playing k) net tg m .transmissions)
-heard-some k net tg (noStation e) = omega arith
-heard-some k net tg (station a t) =
-    answered-some k (leftBy a (calling a t tg) net) tg (calling a t tg .output) (calling a t tg .handled)
-
-playing-some : (k : ℕ) (net : Net) (tg : List ℕ) → 1 ≤ length (playing k net tg .transmissions)
-unfolding playing
-playing-some zero net tg = omega arith
-playing-some (suc k) net tg = heard-some k net tg (handler net tg)
+-- every journey has a transmission
+pub journey-some : {net : Net} {tg : List ℕ} {c : Course} → Journey net tg c → 1 ≤ length (c .transmissions)
+journey-some (ends e) = omega arith
+journey-some (refused e out room k) = omega arith
+journey-some (sends e out room n j) = omega arith
 
 last-later : (tg : List ℕ) (later : List (List ℕ)) → 1 ≤ length later → lastTelegram (tg ∷ later) ≡ lastTelegram later
 unfolding lastTelegram
@@ -55,12 +50,18 @@ last-later tg [] h = absurd (omega arith)
 last-later tg (next ∷ later) h = refl
 
 -- one more transmission was made
-pub summary-onward : (gone k n : ℕ) (net : Net) (tg next : List ℕ) →
-    summaryOf gone (onward tg n (playing k net next)) ≡ summaryOf (gone + 1) (playing k net next)
-summary-onward gone k n net tg next =
-    let rest = playing k net next in
+pub summary-onward : (gone n : ℕ) (tg : List ℕ) (rest : Course) → 1 ≤ length (rest .transmissions) →
+    summaryOf gone (onward tg n rest) ≡ summaryOf (gone + 1) rest
+summary-onward gone n tg rest some =
     ap₂ (λ (x : ℕ) (l : List ℕ). record { count = x; last = l; ending = rest .ending; net = rest .after })
-    (one-more gone (length (rest .transmissions))) (last-later tg (rest .transmissions) (playing-some k net next))
+    (one-more gone (length (rest .transmissions))) (last-later tg (rest .transmissions) some)
   where
     one-more : (x l : ℕ) → x + suc l ≡ x + 1 + l
     one-more x l = omega arith
+
+-- a journey of one transmission
+pub summary-last : (gone : ℕ) (tg : List ℕ) (answers : List Handled) (net : Net) (e : Ending) →
+    summaryOf gone (record { transmissions = tg ∷ []; answers = answers; after = net; ending = e })
+    ≡ record { count = gone + 1; last = tg; ending = e; net = net }
+unfolding lastTelegram
+summary-last gone tg answers net e = refl

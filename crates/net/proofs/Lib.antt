@@ -3,8 +3,13 @@ mod Places
 mod Calls
 mod Meetings
 pub mod Hops
+mod Flags
+mod Relays
 mod Courses
 pub mod Outputs
-mod Runs
+mod Turns
+mod Ways
+mod Arrivals
+mod Plays
 mod DryRuns
 pub mod Journeys

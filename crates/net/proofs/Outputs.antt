@@ -7,7 +7,7 @@ use native.Mathlib.Omega.{arith}
 use lib.ListN.{length, take, drop, replicate, length-append, length-replicate, replicate-append-replicate}
 use lib.Seq.{length-take-le, take-all, drop-at, drop-drop, sets, sets-eq}
 use Rattle.base.specs.Places.{placed}
-use Rattle.base.proofs.Places.{sets-placed, drop-placed}
+use Rattle.base.proofs.Places.{sets-placed, length-placed, take-placed, drop-placed}
 use Rattle.net.specs.DryRun.{runOutput, padded}
 
 -- new first places leave what is further behind
@@ -58,3 +58,14 @@ pub padded-behind : (tg out before : List ℕ) → length tg ≤ runOutput → d
     placed (padded tg) out ≡ placed (padded tg) before
 unfolding placed
 padded-behind tg out before h e = rw (length-padded tg h) (ap (λ (l : List ℕ). padded tg ++ l) e)
+
+-- a telegram that is written to the output, and 0 behind it
+module _ (tg out : List ℕ) (short : length tg ≤ runOutput) (room : runOutput ≤ length out) where
+  pub written-room : {o : List ℕ} → o ≡ placed tg out → runOutput ≤ length o
+  written-room e = rw (e, length-placed tg out (omega arith)) room
+
+  pub last-output : {o : List ℕ} {n : ℕ} → o ≡ placed tg out → n ≡ length tg → placed (padded (take n o)) o ≡ placed (padded tg) out
+  last-output e en =
+      let enough : length tg ≤ length out = omega arith in
+      let behind = ap (drop runOutput) (sym (sets-placed tg out enough)) ∙ drop-behind tg out runOutput short enough in
+      rw (e, en, take-placed tg out) (padded-behind tg (placed tg out) out short behind)

@@ -79,7 +79,7 @@ pub same-tables : SameTables
 same-tables addresses tables e = tables-of-net addresses tables (fit-length addresses tables (set-up-fit addresses tables e))
 
 -- a net that is set up rightly is a good one
-addresses-of-net : (addresses tables : List ℕ) → addressesOf (netOf addresses tables) ≡ addresses
+pub addresses-of-net : (addresses tables : List ℕ) → addressesOf (netOf addresses tables) ≡ addresses
 unfolding netOf
 addresses-of-net [] tables = refl
 addresses-of-net (a ∷ rest) tables = ap (λ (l : List ℕ). a ∷ l) (addresses-of-net rest (drop tableLength tables))
@@ -198,7 +198,7 @@ with-net a (x ∷ rest) tables t h e l =
 
 -- an address that is there, in tables that fit
 module _ (a : ℕ) (addresses tables : List ℕ) (fits : tablesFit addresses tables ≡ true) (there : isThere a (netOf addresses tables) ≡ true) where
-  here : placeIn a addresses < length addresses
+  pub here : placeIn a addresses < length addresses
   here = ltb-true (placeIn a addresses) (length addresses) (sym (there-place a addresses tables) ∙ there)
 
   pub length-table : length (tableAt a (netOf addresses tables)) ≡ tableLength

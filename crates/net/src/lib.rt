@@ -1,4 +1,7 @@
-// The dry run of a net: the journey of a telegram over tables end to end, played by the station's own code.
+// The dry run of a net: the journey of a telegram over tables end to end. In a hop the called station's own code runs; in a dry
+// run only the destination's, since a relay changes nothing but the header.
+use mop_header::Function;
+use mop_header::Header;
 use mop_header::MAX_TELEGRAM;
 use mop_header::Reader;
 use mop_header::Verdict;
@@ -6,23 +9,34 @@ use mop_station::StationAnswer;
 use refusal::Refusal;
 use registers::TABLE_LENGTH;
 ghost use mathlib.Core.Path.{_≡_};
-ghost use mathlib.Core.Bool.{true};
-ghost use Prim.Native.Nat.{_≤_};
-ghost use lib.ListN.{length, take};
+ghost use mathlib.Core.Bool.{true, not};
+ghost use Prim.Native.Nat.{_-_, _≤_, _<_};
+ghost use lib.Dec.{eqb};
+ghost use lib.ListN.{length, take, getD, replicate};
 ghost use Rattle.base.specs.Places.{placed};
+ghost use Rattle.mop_header.specs.Header.{headOf, telegramOf};
+ghost use Rattle.mop_header.specs.Reading.{sound, reading};
+ghost use Rattle.mop_header.specs.declared.Reader.the-variants.{Station};
 ghost use Rattle.mop_station.specs.Station.{handledOf};
 ghost use Rattle.journey.specs.Journey.{named};
 ghost use Rattle.journey.specs.Bounded.{playing, mostTransmissions};
 ghost use Rattle.net.specs.Tables.{netOf, tablesFit, setUp};
 ghost use Rattle.net.specs.Place.{placeIn};
-ghost use Rattle.net.specs.Hop.{hopOf, hoppedOf, hoppedBy, meeting, hopping};
-ghost use Rattle.net.specs.DryRun.{dryRunOf, runOutput, padded, ofCourse, dryRun};
+ghost use Rattle.net.specs.Hop.{endingOf, hopOf, hoppedOf, hoppedBy, meeting, hopping};
+ghost use Rattle.net.specs.Relays.{legAtStation, legAt, placeBehind, placeBefore, flagging, bytes, nextFirst, turnedHead, Turnable, carriageOf, carrying, Arrival, Home, continuing};
+ghost use Rattle.net.specs.DryRun.{played, outcomeOf, dryRunOf, runOutput, padded, ofCourse, dryRun};
 
 // The most stations of a dry run.
 const MAX_STATIONS: usize = 64;
 
 // The places of the output that a dry run fills, and asks for.
 const RUN_OUTPUT: usize = 1024;
+
+// Room for the longest reply: a header of 39 bytes, and a body of 19.
+const REPLY_TELEGRAM: usize = 58;
+
+// How many bytes there are.
+const BYTES: usize = 256;
 
 // The most transmissions of a journey: 31 stations, out and back.
 const MOST_TRANSMISSIONS: usize = 62;
@@ -144,33 +158,258 @@ fn clear_from(from: usize, out: &mut [u8])
     places::put(&zeros[from..RUN_OUTPUT], &mut *out, from)
 }
 
-// The journey of a telegram. The first places of out hold the telegram on the way, and another buffer takes what is sent. The
-// loop never uses up its turns, since no journey has more transmissions; so the answer behind it is never given.
-fn play(telegram: &[u8], addresses: &[u8], tables: &mut [u16], out: &mut [u8]) -> DryRunAnswer
-    requires { ⌜ tablesFit (now addresses) (now tables) ≡ true ⌝ }
-    requires { ⌜ length (now telegram) ≤ runOutput ⌝ }
-    requires { ⌜ runOutput ≤ length (now out) ⌝ }
-    ensures { λ r. ⌜ dryRunOf r (now (tables .exit)) (now (out .exit)) ≡ ofCourse (playing mostTransmissions (netOf (now (addresses .entry)) (now (tables .entry))) (now (telegram .entry))) (now (out .entry)) ⌝ }
+// What comes after a telegram's relays: the end of its journey, or a request's destination.
+enum Halt {
+    Ended(JourneyEnd),
+    AtDestination,
+}
+
+// What the station that is named first makes of a telegram: it is relayed, or goes no further by relays.
+enum Leg {
+    Relayed,
+    Halted(Halt),
+}
+
+// A header as far as relays carried it, the count of transmissions before, and what comes then.
+struct Carried {
+    header: Header,
+    gone: usize,
+    halt: Halt,
+}
+
+// A station that is there: the destination of a request if the next entry is 00, and else a relay.
+fn leg_at_station(function: Function, next: u8) -> Leg
+    ensures { λ r. ⌜ r ≡ legAtStation function next ⌝ }
 {
-    places::put(telegram, &mut *out, 0);
-    let mut length = telegram.len();
-    let mut gone: usize = 0;
-    while gone < MOST_TRANSMISSIONS {
-        let mut sent = [0u8; RUN_OUTPUT];
-        match hop(&out[0..length], addresses, &mut *tables, &mut sent) {
-            HopAnswer::Ended(e) => {
-                clear_from(length, &mut *out);
-                return DryRunAnswer::Played(gone + 1, e, length);
+    match function {
+        Function::Request => {
+            if next == 0 {
+                return Leg::Halted(Halt::AtDestination);
             }
-            HopAnswer::Sent(n) => {
-                places::put(&sent[0..n], &mut *out, 0);
-                length = n;
+            Leg::Relayed
+        }
+        Function::Reply => Leg::Relayed,
+    }
+}
+
+// What becomes of a telegram at the station that its first entry names, if it is there.
+fn leg_at(function: Function, first: u8, next: u8, there: bool) -> Leg
+    ensures { λ r. ⌜ r ≡ legAt function first next there ⌝ }
+{
+    if first == 0 {
+        return Leg::Halted(Halt::Ended(JourneyEnd::AtZero));
+    }
+    if !there {
+        return Leg::Halted(Halt::Ended(JourneyEnd::AtNobody));
+    }
+    leg_at_station(function, next)
+}
+
+// A table of all bytes, with 1 at those that the list has.
+fn table_of(list: &[u8]) -> [u8; BYTES]
+    ensures { λ r. ⌜ r ≡ flagging (replicate bytes 0) (now (list .entry)) ⌝ }
+{
+    let mut table = [0u8; BYTES];
+    let mut i: usize = 0;
+    while i < list.len() {
+        let a = list[i] as usize;
+        table[a] = 1;
+        i += 1;
+    }
+    table
+}
+
+// Whether such a table has a byte.
+fn has_byte(table: &[u8; BYTES], a: u8) -> bool
+    ensures { λ r. ⌜ r ≡ not (eqb (getD (now (table .entry)) a 0) 0) ⌝ }
+{
+    let at = a as usize;
+    table[at] != 0
+}
+
+// The place behind another, in a ring of n.
+fn place_behind(n: usize, at: usize) -> usize
+    requires { ⌜ at < n ⌝ }
+    ensures { λ r. ⌜ r ≡ placeBehind n at ⌝ }
+{
+    if at + 1 < n {
+        return at + 1;
+    }
+    0
+}
+
+// The place before another, in a ring of n.
+fn place_before(n: usize, at: usize) -> usize
+    requires { ⌜ at < n ⌝ }
+    ensures { λ r. ⌜ r ≡ placeBefore n at ⌝ }
+{
+    if at == 0 {
+        return n - 1;
+    }
+    at - 1
+}
+
+// The place that is first after a relay: requests are rolled left, replies right.
+fn next_first(function: Function, n: usize, at: usize) -> usize
+    requires { ⌜ at < n ⌝ }
+    ensures { λ r. ⌜ r ≡ nextFirst function n at ⌝ }
+{
+    match function {
+        Function::Request => place_behind(n, at),
+        Function::Reply => place_before(n, at),
+    }
+}
+
+// A header with the entry at a place rolled to the front, and the mark set by it.
+fn turned(header: Header, at: usize) -> Header
+    ensures { λ r. ⌜ headOf r ≡ turnedHead (headOf header) at ⌝ }
+{
+    let rolled = header.rolled_by(at);
+    rolled.remarked()
+}
+
+// Carries a telegram over its relays. They only roll the block, so the header is turned once, at the end. The loop never uses
+// up its turns, since no journey has more transmissions; so the answer behind it is never given.
+fn carry(first: Header, before: usize, addresses: &[u8]) -> Carried
+    requires { ⌜ before ≤ mostTransmissions ⌝ }
+    requires { ⌜ Turnable (headOf first) ⌝ }
+    ensures { λ r. ⌜ carriageOf r ≡ carrying (mostTransmissions - before) (now (addresses .entry)) before (headOf first) ⌝ }
+    ensures { λ r. ⌜ r .gone ≤ mostTransmissions ⌝ }
+{
+    let function = first.function;
+    let n = first.entry_count();
+    let table = table_of(addresses);
+    let mut at: usize = 0;
+    let mut gone = before;
+    while gone < MOST_TRANSMISSIONS {
+        let entry = first.entry(at);
+        let next = first.entry(place_behind(n, at));
+        match leg_at(function, entry, next, has_byte(&table, entry)) {
+            Leg::Halted(halt) => {
+                let header = turned(first, at);
+                return Carried { header, gone, halt };
+            }
+            Leg::Relayed => {
+                at = next_first(function, n, at);
                 gone += 1;
             }
         }
     }
+    let header = turned(first, at);
+    Carried {
+        header,
+        gone,
+        halt: Halt::Ended(JourneyEnd::AtZero),
+    }
+}
+
+// Ends a run: the last telegram in the first places of out, and 0 behind it.
+fn end_run(
+    header: Header,
+    body: &[u8],
+    count: usize,
+    ending: JourneyEnd,
+    out: &mut [u8],
+) -> DryRunAnswer
+    requires { ⌜ length (telegramOf (headOf header) (now body)) ≤ runOutput ⌝ }
+    requires { ⌜ runOutput ≤ length (now out) ⌝ }
+    ensures { λ r. ⌜ outcomeOf r ≡ played count (endingOf ending) (length (telegramOf (headOf header) (now (body .entry)))) ⌝ }
+    ensures { λ r. ⌜ now (out .exit) ≡ placed (padded (telegramOf (headOf header) (now (body .entry)))) (now (out .entry)) ⌝ }
+{
+    let length = header.length() + body.len();
+    mop_header::write(header, body, &mut *out);
     clear_from(length, &mut *out);
-    DryRunAnswer::Played(gone + 1, JourneyEnd::AtZero, length)
+    DryRunAnswer::Played(count, ending, length)
+}
+
+// The way home of a reply. It never comes to a destination.
+fn go_home(
+    header: Header,
+    body: &[u8],
+    before: usize,
+    addresses: &[u8],
+    out: &mut [u8],
+) -> DryRunAnswer
+    requires { ⌜ before ≤ mostTransmissions ⌝ }
+    requires { ⌜ Turnable (headOf header) ⌝ }
+    requires { ⌜ length (telegramOf (carrying (mostTransmissions - before) (now addresses) before (headOf header) .head) (now body)) ≤ runOutput ⌝ }
+    requires { ⌜ runOutput ≤ length (now out) ⌝ }
+    ensures { λ r. ⌜ Home (carrying (mostTransmissions - before) (now (addresses .entry)) before (headOf header)) (now (body .entry)) (now (out .entry)) (outcomeOf r) (now (out .exit)) ⌝ }
+{
+    let carried = carry(header, before, addresses);
+    let last = carried.header;
+    let count = carried.gone + 1;
+    let halt = carried.halt;
+    match halt {
+        Halt::Ended(e) => end_run(last, body, count, e, &mut *out),
+        Halt::AtDestination => end_run(last, body, count, JourneyEnd::AtZero, &mut *out),
+    }
+}
+
+// A request at its destination: refused, or answered, and then the reply's way home. "Not mine" is never given.
+fn arrive(
+    header: Header,
+    body: &[u8],
+    gone: usize,
+    addresses: &[u8],
+    tables: &mut [u16],
+    out: &mut [u8],
+) -> DryRunAnswer
+    requires { ⌜ Arrival (headOf header) (now body) gone (now addresses) (now tables) ⌝ }
+    requires { ⌜ runOutput ≤ length (now out) ⌝ }
+    ensures { λ r. ⌜ dryRunOf r (now (tables .exit)) (now (out .exit)) ≡ continuing gone (playing mostTransmissions (netOf (now (addresses .entry)) (now (tables .entry))) (telegramOf (headOf header) (now (body .entry)))) (now (out .entry)) ⌝ }
+{
+    let place = place_in(addresses, header.first());
+    let start = TABLE_LENGTH * place;
+    let end = start + TABLE_LENGTH;
+    let mut sent = [0u8; REPLY_TELEGRAM];
+    match mop_station::answer_request(header, body, &mut tables[start..end], &mut sent) {
+        StationAnswer::Sent(n) => {
+            let reply = mop_station::reply_header(header);
+            let at = reply.length();
+            go_home(reply, &sent[at..n], gone + 1, addresses, &mut *out)
+        }
+        StationAnswer::NotMine => {
+            end_run(header, body, gone + 1, JourneyEnd::AtNobody, &mut *out)
+        }
+        StationAnswer::Refused(r) => {
+            end_run(header, body, gone + 1, JourneyEnd::Refused(r), &mut *out)
+        }
+    }
+}
+
+// The journey of a telegram with this header: over relays, and from a request's destination home.
+fn play(
+    header: Header,
+    telegram: &[u8],
+    addresses: &[u8],
+    tables: &mut [u16],
+    out: &mut [u8],
+) -> DryRunAnswer
+    requires { ⌜ reading Station (now telegram) ≡ sound (headOf header) ⌝ }
+    requires { ⌜ setUp (now addresses) (now tables) ≡ true ⌝ }
+    requires { ⌜ runOutput ≤ length (now out) ⌝ }
+    ensures { λ r. ⌜ dryRunOf r (now (tables .exit)) (now (out .exit)) ≡ ofCourse (playing mostTransmissions (netOf (now (addresses .entry)) (now (tables .entry))) (now (telegram .entry))) (now (out .entry)) ⌝ }
+{
+    let carried = carry(header, 0, addresses);
+    let last = carried.header;
+    let gone = carried.gone;
+    let halt = carried.halt;
+    let at = header.length();
+    let n = telegram.len();
+    match halt {
+        Halt::Ended(e) => end_run(last, &telegram[at..n], gone + 1, e, &mut *out),
+        Halt::AtDestination => {
+            arrive(
+                last,
+                &telegram[at..n],
+                gone,
+                addresses,
+                &mut *tables,
+                &mut *out,
+            )
+        }
+    }
 }
 
 // The dry run of a telegram over a net: the one journey of that net (`runs-the-journey`, specs/DryRun.antt), played on the
@@ -196,9 +435,10 @@ pub fn dry_run(
         return DryRunAnswer::Refused(Refusal::OutputShort);
     }
     let read = mop_header::read(Reader::Station, telegram);
+    let header = read.header;
     let verdict = read.verdict;
     match verdict {
         Verdict::Fault(r) => DryRunAnswer::Refused(r),
-        Verdict::Fine => play(telegram, addresses, &mut *tables, &mut *out),
+        Verdict::Fine => play(header, telegram, addresses, &mut *tables, &mut *out),
     }
 }

@@ -1,28 +1,68 @@
--- `distinct_addresses`: no 00, and then all are stations.
+-- `distinct_addresses`: what is left from `at` on, with the marks, decides as the whole list does. What is left falls.
 -- Assumes nothing.
-use mathlib.Core.Path.{sym, _∙_, ap}
+use Prim.Native.Nat.{_-_}
+use mathlib.Core.Path.{_≡_, sym, _∙_}
+use native.Mathlib.Omega.{arith}
 use borrow.Author.Needs.{needs}
+use borrow.Author.Tests.{not-true, not-false}
+use lib.ListN.{length, drop}
 use Rattle.mop_block.specs.Block.{distinctAddresses}
-use Rattle.mop_block.proofs.Stations.{zero-distinct, stations-all}
+use Rattle.mop_block.proofs.Marks.{allNew, new-clear, new-next, new-end}
 use Rattle.mop_block.proofs.distinct_addresses.Statement.{statement}
 use Rattle.mop_block.proofs.distinct_addresses.Tie as tie
 
-has-from-requires : tie.Need-has-from-requires
-has-from-requires c κs = search needs
+abbrev Inv-loop : tie.InvT-loop
+Inv-loop list marks₀ at₀ marks at = allNew marks (drop at list) ≡ distinctAddresses list
 
-returns : tie.Need-returns
+abbrev μ-loop : tie.MeasureT-loop
+μ-loop list marks₀ at₀ marks at = length list - at
+
+loop-holds : tie.Need-loop-holds Inv-loop μ-loop
+loop-holds c = new-clear _
+
+shared-slice-read-a : tie.Need-shared-slice-read-a Inv-loop μ-loop
+shared-slice-read-a c = omega arith
+
+add-at : tie.Need-add-at Inv-loop μ-loop
+add-at c = omega arith
+
+mark-requires : tie.Need-mark-requires Inv-loop μ-loop
+mark-requires c κs = search needs
+
+returns : tie.Need-returns Inv-loop μ-loop
 returns c =
-    let h = c .before .has-from in
-    sym (zero-distinct (c .before .before .before .args .list .now) (sym (h .ensures) ∙ c .if1 .taken))
+    let a = c .before .before .before .before .before in
+    let no = sym (c .before .mark .ensures .0) ∙ not-true _ (c .if1 .taken) in
+    let l = a .before .before .args .list .now in
+    sym (new-next l (a .loop .at) (a .loop .marks) (c .before .before .before .before .loop-test .taken) ∙ rw no) ∙ a .loop .inv
 
-distinct-stations-requires : tie.Need-distinct-stations-requires
-distinct-stations-requires c κs = search needs
+loop-less : tie.Need-loop-less Inv-loop μ-loop
+loop-less c = omega arith
 
-returns-2 : tie.Need-returns-2
+loop-again : tie.Need-loop-again Inv-loop μ-loop
+loop-again c =
+    let a = c .before .before .before .before .before in
+    let yes = sym (c .before .mark .ensures .0) ∙ not-false _ (c .if1 .left) in
+    let l = a .before .before .args .list .now in
+    rw (c .before .mark .ensures .1)
+    (sym (new-next l (a .loop .at) (a .loop .marks) (c .before .before .before .before .loop-test .taken) ∙ rw yes) ∙ a .loop .inv)
+
+returns-2 : tie.Need-returns-2 Inv-loop μ-loop
 returns-2 c =
-    let h = c .before .before .has-from in
-    c .distinct-stations .ensures
-    ∙ ap distinctAddresses (stations-all (c .before .before .before .before .args .list .now) (sym (h .ensures) ∙ c .before .if1 .left))
+    let a = c .before in
+    sym (new-end (a .before .before .args .list .now) (a .loop .at) (a .loop .marks) (c .loop-test .left)) ∙ a .loop .inv
 
 pub distinct-addresses-spec : {M : Type 1} → statement M
-distinct-addresses-spec = tie.close (tie.spec has-from-requires returns distinct-stations-requires returns-2)
+distinct-addresses-spec =
+    tie.close
+    (tie.spec
+    Inv-loop
+    μ-loop
+    loop-holds
+    shared-slice-read-a
+    add-at
+    mark-requires
+    returns
+    loop-less
+    loop-again
+    returns-2)

@@ -4,8 +4,7 @@ use mathlib.Core.Path.{sym, _∙_}
 use borrow.Author.Needs.{needs}
 use borrow.Author.Tests.{not-true, not-false}
 use Rattle.net.specs.DryRun.{runOf}
-use Rattle.net.proofs.Tables.{set-up-fit}
-use Rattle.net.proofs.DryRuns.{not-set-up, too-long, output-short, run-read}
+use Rattle.net.proofs.DryRuns.{not-set-up, too-long, output-short, run-read, read-sound}
 use Rattle.net.proofs.dry_run.Statement.{statement}
 use Rattle.net.proofs.dry_run.Tie as tie
 
@@ -43,9 +42,11 @@ enum-told c = search needs
 
 play-requires : tie.Need-play-requires
 play-requires c κs =
-    let i = c .before .before .before .before .before in
+    let t = c .before .before in
+    let read = t .before .before .before .read in
+    let i = t .before .before .before .before in
     let set = sym (i .before .before .before .is-set-up .ensures) ∙ not-false _ (i .before .before .if1 .left) in
-    (set-up-fit _ _ set, (i .before .if2 .left, i .if3 .left))
+    (read-sound _ (read .result) (read .ensures) (t .enum-told .given .1), (set, i .if3 .left))
 
 same-length-4 : tie.Need-same-length-4
 same-length-4 c = search needs
@@ -53,8 +54,8 @@ same-length-4 c = search needs
 returns-4 : tie.Need-returns-4
 unfolding runOf
 returns-4 c =
-    let i = c .before .before .before .before in
-    let read = c .before .before .before .read in
+    let i = c .before .before .before .before .before in
+    let read = c .before .before .before .before .read in
     let set = sym (i .before .before .before .is-set-up .ensures) ∙ not-false _ (i .before .before .if1 .left) in
     sym (run-read _ _ _ _ set (i .before .if2 .left) (i .if3 .left) (read .result) (read .ensures) (c .before .verdict .given .1))
 
@@ -68,8 +69,8 @@ returns-5 : tie.Need-returns-5
 unfolding runOf
 returns-5 c =
     let k = c .before .before .before .before .before .before .before .enum-told .given in
-    let read = c .before .before .before .before .before .before .before .before .before .read in
-    let i = c .before .before .before .before .before .before .before .before .before .before in
+    let read = c .before .before .before .before .before .before .before .before .before .before .read in
+    let i = c .before .before .before .before .before .before .before .before .before .before .before in
     let a = i .before .before .before .before .before .before .before .before .before .args in
     let set = sym (i .before .before .before .is-set-up .ensures) ∙ not-false _ (i .before .before .if1 .left) in
     rw (run-read (a .telegram .now) (a .addresses .now) (a .tables .now) (a .out .now) set (i .before .if2 .left) (i .if3 .left)
