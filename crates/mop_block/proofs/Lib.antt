@@ -3,6 +3,6 @@ pub mod Counts
 pub mod Stations
 pub mod Ends
 pub mod Zipper
-pub mod Marks
+pub mod Seen
 pub mod Scan
 pub mod Pass

@@ -31,15 +31,15 @@ fn zero_end(x: u8, y: u8) -> usize
     1
 }
 
-// Marks a number; gives whether it is an address, and was not marked.
-fn mark(marks: &mut [bool; 256], a: u8) -> bool
-    ensures { λ r. ⌜ r ≡ isAddress a && not (getD (now (marks .entry)) a false) ⌝ }
-    ensures { λ r. ⌜ now (marks .exit) ≡ set (now (marks .entry)) a true ⌝ }
+// Notes a number as seen; gives whether it is an address, and was not seen before.
+fn note_address(seen: &mut [bool; 256], a: u8) -> bool
+    ensures { λ r. ⌜ r ≡ isAddress a && not (getD (now (seen .entry)) a false) ⌝ }
+    ensures { λ r. ⌜ now (seen .exit) ≡ set (now (seen .entry)) a true ⌝ }
 {
     let place = a as usize;
-    let marked = marks[place];
-    marks[place] = true;
-    if marked {
+    let before = seen[place];
+    seen[place] = true;
+    if before {
         return false;
     }
     is_address(a)
@@ -49,12 +49,12 @@ fn mark(marks: &mut [bool; 256], a: u8) -> bool
 pub fn distinct_addresses(list: &[u8]) -> bool
     ensures { λ r. ⌜ r ≡ distinctAddresses (now (list .entry)) ⌝ }
 {
-    let mut marks = [false; 256];
+    let mut seen = [false; 256];
     let mut at: usize = 0;
     while at < list.len() {
         let a = list[at];
         at += 1;
-        if !mark(&mut marks, a) {
+        if !note_address(&mut seen, a) {
             return false;
         }
     }
@@ -85,7 +85,7 @@ pub fn good_block(b: &[u8]) -> bool
     if n == 0 {
         return false;
     }
-    let mut marks = [false; 256];
+    let mut seen = [false; 256];
     let mut zero = false;
     let mut ends: usize = 0;
     let mut last = b[n - 1];
@@ -99,7 +99,7 @@ pub fn good_block(b: &[u8]) -> bool
             zero = true;
             continue;
         }
-        if !mark(&mut marks, x) {
+        if !note_address(&mut seen, x) {
             return false;
         }
     }

@@ -1,4 +1,4 @@
--- `distinct_addresses`: what is left from `at` on, with the marks, decides as the whole list does. What is left falls.
+-- `distinct_addresses`: what is left from `at` on, with the seen, decides as the whole list does. What is left falls.
 -- Assumes nothing.
 use Prim.Native.Nat.{_-_}
 use mathlib.Core.Path.{_≡_, sym, _∙_}
@@ -7,15 +7,15 @@ use borrow.Author.Needs.{needs}
 use borrow.Author.Tests.{not-true, not-false}
 use lib.ListN.{length, drop}
 use Rattle.mop_block.specs.Block.{distinctAddresses}
-use Rattle.mop_block.proofs.Marks.{allNew, new-clear, new-next, new-end}
+use Rattle.mop_block.proofs.Seen.{allNew, new-clear, new-next, new-end}
 use Rattle.mop_block.proofs.distinct_addresses.Statement.{statement}
 use Rattle.mop_block.proofs.distinct_addresses.Tie as tie
 
 abbrev Inv-loop : tie.InvT-loop
-Inv-loop list marks₀ at₀ marks at = allNew marks (drop at list) ≡ distinctAddresses list
+Inv-loop list seen₀ at₀ seen at = allNew seen (drop at list) ≡ distinctAddresses list
 
 abbrev μ-loop : tie.MeasureT-loop
-μ-loop list marks₀ at₀ marks at = length list - at
+μ-loop list seen₀ at₀ seen at = length list - at
 
 loop-holds : tie.Need-loop-holds Inv-loop μ-loop
 loop-holds c = new-clear _
@@ -26,15 +26,15 @@ shared-slice-read-a c = omega arith
 add-at : tie.Need-add-at Inv-loop μ-loop
 add-at c = omega arith
 
-mark-requires : tie.Need-mark-requires Inv-loop μ-loop
-mark-requires c κs = search needs
+note-address-requires : tie.Need-note-address-requires Inv-loop μ-loop
+note-address-requires c κs = search needs
 
 returns : tie.Need-returns Inv-loop μ-loop
 returns c =
     let a = c .before .before .before .before .before in
-    let no = sym (c .before .mark .ensures .0) ∙ not-true _ (c .if1 .taken) in
+    let no = sym (c .before .note-address .ensures .0) ∙ not-true _ (c .if1 .taken) in
     let l = a .before .before .args .list .now in
-    sym (new-next l (a .loop .at) (a .loop .marks) (c .before .before .before .before .loop-test .taken) ∙ rw no) ∙ a .loop .inv
+    sym (new-next l (a .loop .at) (a .loop .seen) (c .before .before .before .before .loop-test .taken) ∙ rw no) ∙ a .loop .inv
 
 loop-less : tie.Need-loop-less Inv-loop μ-loop
 loop-less c = omega arith
@@ -42,15 +42,15 @@ loop-less c = omega arith
 loop-again : tie.Need-loop-again Inv-loop μ-loop
 loop-again c =
     let a = c .before .before .before .before .before in
-    let yes = sym (c .before .mark .ensures .0) ∙ not-false _ (c .if1 .left) in
+    let yes = sym (c .before .note-address .ensures .0) ∙ not-false _ (c .if1 .left) in
     let l = a .before .before .args .list .now in
-    rw (c .before .mark .ensures .1)
-    (sym (new-next l (a .loop .at) (a .loop .marks) (c .before .before .before .before .loop-test .taken) ∙ rw yes) ∙ a .loop .inv)
+    rw (c .before .note-address .ensures .1)
+    (sym (new-next l (a .loop .at) (a .loop .seen) (c .before .before .before .before .loop-test .taken) ∙ rw yes) ∙ a .loop .inv)
 
 returns-2 : tie.Need-returns-2 Inv-loop μ-loop
 returns-2 c =
     let a = c .before in
-    sym (new-end (a .before .before .args .list .now) (a .loop .at) (a .loop .marks) (c .loop-test .left)) ∙ a .loop .inv
+    sym (new-end (a .before .before .args .list .now) (a .loop .at) (a .loop .seen) (c .loop-test .left)) ∙ a .loop .inv
 
 pub distinct-addresses-spec : {M : Type 1} → statement M
 distinct-addresses-spec =
@@ -61,7 +61,7 @@ distinct-addresses-spec =
     loop-holds
     shared-slice-read-a
     add-at
-    mark-requires
+    note-address-requires
     returns
     loop-less
     loop-again

@@ -12,11 +12,11 @@ use Rattle.mop_block.proofs.good_block.Statement.{statement}
 use Rattle.mop_block.proofs.good_block.Tie as tie
 
 abbrev Inv-loop : tie.InvT-loop
-Inv-loop b n marks₀ zero₀ ends₀ last₀ i₀ marks zero ends last i =
-    (ends ≤ i) × (i ≤ n) × (goodFrom zero ends last marks (drop i b) ≡ goodBlock b)
+Inv-loop b n seen₀ zero₀ ends₀ last₀ i₀ seen zero ends last i =
+    (ends ≤ i) × (i ≤ n) × (goodFrom zero ends last seen (drop i b) ≡ goodBlock b)
 
 abbrev μ-loop : tie.MeasureT-loop
-μ-loop b n marks₀ zero₀ ends₀ last₀ i₀ marks zero ends last i = n - i
+μ-loop b n seen₀ zero₀ ends₀ last₀ i₀ seen zero ends last i = n - i
 
 returns : tie.Need-returns Inv-loop μ-loop
 returns c = sym (good-none (c .before .before .args .b .now) (c .if1 .taken))
@@ -50,11 +50,11 @@ loop-again c =
     let t = c .before .before .before in
     let v = t .before .loop in
     let b = t .before .before .before .before .before .args .b .now in
-    let e = pass-zero b (v .i) (v .zero) (v .ends) (v .last) (v .marks) (t .loop-test .taken) (c .if2 .taken) in
+    let e = pass-zero b (v .i) (v .zero) (v .ends) (v .last) (v .seen) (t .loop-test .taken) (c .if2 .taken) in
     (omega arith, omega arith, rw (c .before .zero-end .ensures .0) (sym e ∙ v .inv .2))
 
-mark-requires : tie.Need-mark-requires Inv-loop μ-loop
-mark-requires c κs = search needs
+note-address-requires : tie.Need-note-address-requires Inv-loop μ-loop
+note-address-requires c κs = search needs
 
 returns-2 : tie.Need-returns-2 Inv-loop μ-loop
 returns-2 c =
@@ -62,8 +62,8 @@ returns-2 c =
     let t = d .before .before .before in
     let v = t .before .loop in
     let b = t .before .before .before .before .before .args .b .now in
-    let no = sym (c .before .mark .ensures .0) ∙ not-true _ (c .if3 .taken) in
-    sym (pass-refused b (v .i) (v .zero) (v .ends) (v .last) (v .marks) (t .loop-test .taken) (d .if2 .left) no) ∙ v .inv .2
+    let no = sym (c .before .note-address .ensures .0) ∙ not-true _ (c .if3 .taken) in
+    sym (pass-refused b (v .i) (v .zero) (v .ends) (v .last) (v .seen) (t .loop-test .taken) (d .if2 .left) no) ∙ v .inv .2
 
 loop-less-2 : tie.Need-loop-less-2 Inv-loop μ-loop
 loop-less-2 c = omega arith
@@ -74,22 +74,22 @@ loop-again-2 c =
     let t = d .before .before .before in
     let v = t .before .loop in
     let b = t .before .before .before .before .before .args .b .now in
-    let yes = sym (c .before .mark .ensures .0) ∙ not-false _ (c .if3 .left) in
-    let e = pass-station b (v .i) (v .zero) (v .ends) (v .last) (v .marks) (t .loop-test .taken) (d .if2 .left) yes in
-    (omega arith, omega arith, rw (c .before .mark .ensures .1, d .before .zero-end .ensures .0) (sym e ∙ v .inv .2))
+    let yes = sym (c .before .note-address .ensures .0) ∙ not-false _ (c .if3 .left) in
+    let e = pass-station b (v .i) (v .zero) (v .ends) (v .last) (v .seen) (t .loop-test .taken) (d .if2 .left) yes in
+    (omega arith, omega arith, rw (c .before .note-address .ensures .1, d .before .zero-end .ensures .0) (sym e ∙ v .inv .2))
 
 returns-3 : tie.Need-returns-3 Inv-loop μ-loop
 returns-3 c =
     let v = c .before .before .loop in
     let b = c .before .before .before .before .before .before .args .b .now in
-    let e = pass-end b (v .i) (v .zero) (v .ends) (v .last) (v .marks) (c .before .loop-test .left) in
+    let e = pass-end b (v .i) (v .zero) (v .ends) (v .last) (v .seen) (c .before .loop-test .left) in
     sym (e ∙ rw (not-true (v .zero) (c .if4 .taken))) ∙ v .inv .2
 
 returns-4 : tie.Need-returns-4 Inv-loop μ-loop
 returns-4 c =
     let v = c .before .before .loop in
     let b = c .before .before .before .before .before .before .args .b .now in
-    let e = pass-end b (v .i) (v .zero) (v .ends) (v .last) (v .marks) (c .before .loop-test .left) in
+    let e = pass-end b (v .i) (v .zero) (v .ends) (v .last) (v .seen) (c .before .loop-test .left) in
     sym (e ∙ rw (not-false (v .zero) (c .if4 .left))) ∙ v .inv .2
 
 pub good-block-spec : {M : Type 1} → statement M
@@ -108,7 +108,7 @@ good-block-spec =
     add-ends
     loop-less
     loop-again
-    mark-requires
+    note-address-requires
     returns-2
     loop-less-2
     loop-again-2
