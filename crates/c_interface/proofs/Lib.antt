@@ -3,3 +3,4 @@ pub mod States
 pub mod Messages
 pub mod Replies
 pub mod Runs
+pub mod Bounds

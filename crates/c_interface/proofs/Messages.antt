@@ -9,9 +9,10 @@ use lib.Dec.{eqb, ltb}
 use lib.Bits.{bitXor}
 use lib.ListN.{length}
 use Rattle.base.specs.Choice.{pick}
+use Rattle.base.proofs.Choice.{pick-either}
 use Rattle.link_frame.specs.Frame.{maxData}
 use Rattle.link_frame.specs.ControlBytes.{STX, ETX, DLE, NAK}
-use Rattle.link_receive.specs.Receive.{nothing, sends, delivers, refuses, responseOf, Reaction, Outcome, with, at, to, resting, restOf, noRoom, Storing, afterStore, storeOf, dataOf, insideOf, waitingOf, byteOf, timerOf, eventOf, against, receiveOf}
+use Rattle.link_receive.specs.Receive.{nothing, refuses, responseOf, Reaction, Outcome, with, at, to, restOf, noRoom, Storing, afterStore, storeOf, dataOf, insideOf, waitingOf, byteOf, timerOf, eventOf, against, receiveOf}
 use Rattle.link_receive.specs.declared.Dle.{Dle}
 use Rattle.link_receive.specs.declared.Dle.the-variants.{Seen, NotSeen}
 use Rattle.link_receive.specs.declared.Phase.{Phase}
@@ -27,11 +28,6 @@ use Rattle.c_interface.specs.Link.{shortMessage}
 pub message-bound : (n : ℕ) {a : LinkAnswer} → shortMessage (responseOf a) ≡ true → a ≡ Message n → n ≤ maxData
 message-bound n short told = leb-true n maxData (sym (ap (λ (x : LinkAnswer). shortMessage (responseOf x)) told) ∙ short)
 
--- a property of both is one of the choice
-either : {A : Type 0} (P : A → Type 0) (t : Bool) (a b : A) → P a → P b → P (pick t a b)
-either P true a b x y = x
-either P false a b x y = y
-
 abbrev short : Reaction → Type 0
 short r = shortMessage (r .response) ≡ true
 
@@ -41,26 +37,22 @@ shortOut o = short (o .reaction)
 rest-short : (b : ℕ) → short (restOf b)
 unfolding restOf
 rest-short b =
-    either short (eqb b STX) _ _ refl (either short (eqb b NAK) (resting nothing) (resting (sends NAK)) refl refl)
+    pick-either short (eqb b STX) refl (pick-either short (eqb b NAK) refl refl)
 
 data-short : (n c b : ℕ) (buf : List ℕ) → shortOut (dataOf n c b buf)
 unfolding dataOf storeOf afterStore
 data-short n c b buf =
-    either (λ (s : Storing). short (afterStore (s .stored))) (noRoom n buf) _ _ refl refl
+    pick-either (λ (s : Storing). short (afterStore (s .stored))) (noRoom n buf) refl refl
 
 inside-short : (d : Dle) (n c b : ℕ) (buf : List ℕ) → shortOut (insideOf d n c b buf)
 unfolding insideOf
 inside-short NotSeen n c b buf =
-    either shortOut (eqb b DLE) (with (to nothing (at (Inside Seen) n c)) buf) (dataOf n c b buf) refl (data-short n c b buf)
-inside-short Seen n c b buf =
-    let closed = with (to nothing (at Waiting n c)) buf in
-    let broken = with (resting (sends NAK)) buf in
-    either shortOut (eqb b DLE) (dataOf n c b buf) (pick (eqb b ETX) closed broken) (data-short n c b buf)
-    (either shortOut (eqb b ETX) closed broken refl refl)
+    pick-either shortOut (eqb b DLE) refl (data-short n c b buf)
+inside-short Seen n c b buf = pick-either shortOut (eqb b DLE) (data-short n c b buf) (pick-either shortOut (eqb b ETX) refl refl)
 
 waiting-short : (n c b : ℕ) → n ≤ maxData → short (waitingOf n c b)
 unfolding waitingOf
-waiting-short n c b most = either short (eqb b c) (resting (delivers DLE n)) (resting (sends NAK)) (le-leb n maxData most) refl
+waiting-short n c b most = pick-either short (eqb b c) (le-leb n maxData most) refl
 
 event-short : (e : LinkEvent) (p : Phase) (n c : ℕ) (buf : List ℕ) → n ≤ maxData → shortOut (eventOf e (at p n c) buf)
 unfolding eventOf byteOf timerOf

@@ -3,3 +3,4 @@ pub mod Link
 pub mod Station
 pub mod Centre
 pub mod Net
+pub mod Bounds
