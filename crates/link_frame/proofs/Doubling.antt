@@ -1,19 +1,20 @@
 -- The doubled data from place i on: a byte and what is left behind it, or a part.
 -- Assumes nothing.
 use mathlib.Core.Path.{_≡_, refl, ap, sym, _∙_}
-use mathlib.Core.Bool.{Bool, true, false, _&&_, not, false≢true}
+use mathlib.Core.Bool.{Bool, true, false, _&&_, not, and-true, and-false, false≢true}
 use mathlib.Core.List.{List, [], _∷_, _++_, append-assoc}
-use Prim.Native.Nat.{ℕ, _+_, _-_, _*_, _≤_, _<_}
+use Prim.Native.Nat.{ℕ, suc, _+_, _-_, _*_, _≤_, _<_}
+use native.Mathlib.Nat.{add-suc, suc-add}
 use native.Mathlib.Numerals.{add-one}
 use native.Mathlib.Omega.{arith}
-use borrow.Author.Tests.{eq-eqb, ne-eqb, eqb-false}
+use borrow.Author.Tests.{eq-eqb, ne-eqb, eqb-true, eqb-false}
 use lib.Dec.{eqb}
-use lib.ListN.{length, take, drop, getD, length-append, take-append-drop, length-drop, drop-of-length-le}
+use lib.ListN.{length, take, drop, getD, replicate, length-append, take-append-drop, length-drop, drop-of-length-le}
 use lib.Seq.{drop-cons, drop-drop, take-all}
 use Rattle.base.specs.Choice.{pick}
 use Rattle.link_frame.specs.ControlBytes.{DLE}
 use Rattle.link_frame.specs.Frame.{sent, doubled}
-use Rattle.link_frame.specs.Writing.{noDle}
+use Rattle.link_frame.specs.Writing.{every, isDle, isOther}
 use Rattle.link_frame.proofs.Steps.{Splits}
 
 -- a DLE is sent twice, any other byte once
@@ -71,28 +72,52 @@ pub last-part : (d : List ℕ) (i : ℕ) → take (length d - i) (drop i d) ≡ 
 last-part d i = take-all (length d - i) (drop i d) (simp length-drop (omega arith))
 
 -- data with no DLE in it is sent as it is
-plain-first : (b : ℕ) (bs : List ℕ) (t : Bool) → eqb b DLE ≡ t → (noDle bs ≡ true → doubled bs ≡ bs) → not t && noDle bs ≡ true → sent b ++ doubled bs ≡ b ∷ bs
+plain-first : (b : ℕ) (bs : List ℕ) (t : Bool) → eqb b DLE ≡ t → (every isOther bs ≡ true → doubled bs ≡ bs) →
+    not t && every isOther bs ≡ true → sent b ++ doubled bs ≡ b ∷ bs
 plain-first b bs true e ih p = absurd (false≢true p)
 plain-first b bs false e ih p = rw (sent-other b (eqb-false b DLE e), ih p)
 
-pub plain : (d : List ℕ) → noDle d ≡ true → doubled d ≡ d
-unfolding doubled noDle
+pub plain : (d : List ℕ) → every isOther d ≡ true → doubled d ≡ d
+unfolding doubled every
 plain [] = λ p. refl
 plain (b ∷ bs) = plain-first b bs (eqb b DLE) refl (plain bs)
 
--- no DLE found so far: what is left decides
-module _ (d : List ℕ) (i : ℕ) where
-  pub no-dle-next : i < length d → (getD d i 0 ≡ DLE → ⊥) → noDle (drop i d) ≡ noDle (drop (i + 1) d)
-  unfolding noDle
-  no-dle-next h b = rw (drop-cons d i 0, add-one) (simp (ne-eqb _ _ b))
+-- data that is nothing but DLE is sent as a run of twice its length
+run-first : (b : ℕ) (bs : List ℕ) (t : Bool) → eqb b DLE ≡ t →
+    (every isDle bs ≡ true → doubled bs ≡ replicate (length bs + length bs) DLE) →
+    t && every isDle bs ≡ true → sent b ++ doubled bs ≡ replicate (suc (length bs) + suc (length bs)) DLE
+run-first b bs false e ih p = absurd (false≢true p)
+run-first b bs true e ih p =
+    rw (sent-dle b (eqb-true b DLE e), ih p, eqb-true b DLE e, suc-add (length bs) (suc (length bs)), add-suc (length bs) (length bs))
 
-  pub no-dle-found : i < length d → getD d i 0 ≡ DLE → noDle (drop i d) ≡ false
-  unfolding noDle
-  no-dle-found h b = rw (drop-cons d i 0) (simp (eq-eqb _ _ b))
+pub run : (d : List ℕ) → every isDle d ≡ true → doubled d ≡ replicate (length d + length d) DLE
+unfolding doubled every
+run [] = λ p. refl
+run (b ∷ bs) = run-first b bs (eqb b DLE) refl (run bs)
 
-  pub no-dle-end : length d ≤ i → noDle (drop i d) ≡ true
-  unfolding noDle
-  no-dle-end h = rw (drop-of-length-le d h)
+-- one byte of a run
+pub next-of-run : (n b i : ℕ) → i < n → Splits (replicate (n - i) b) (b ∷ []) (replicate (n - (i + 1)) b)
+next-of-run n b i h = let k : n - i ≡ suc (n - (i + 1)) = omega arith in record { is = rw k }
+
+-- whether a byte before place i has failed a test is known: what is left decides
+module _ (test : ℕ → Bool) (d : List ℕ) (i : ℕ) (failed : Bool) (known : not failed && every test (drop i d) ≡ every test d) where
+  pub every-next : i < length d → test (getD d i 0) ≡ true → not failed && every test (drop (i + 1) d) ≡ every test d
+  unfolding every
+  every-next h e =
+      let first : every test (drop i d) ≡ every test (drop (i + 1) d) = rw (drop-cons d i 0, add-one) (rw e) in
+      rw (← first) known
+
+  pub every-fails : i < length d → test (getD d i 0) ≡ false → false ≡ every test d
+  unfolding every
+  every-fails h e =
+      let first : every test (drop i d) ≡ false = rw (drop-cons d i 0) (rw e) in
+      sym (and-false (not failed)) ∙ rw (← first) known
+
+  pub every-end : length d ≤ i → not failed ≡ every test d
+  unfolding every
+  every-end h =
+      let none : every test (drop i d) ≡ true = rw (drop-of-length-le d h) in
+      sym (and-true (not failed)) ∙ rw (← none) known
 
 -- the doubled data is at most twice as long
 sent-bound : (b : ℕ) (t : Bool) → length (pick t (b ∷ b ∷ []) (b ∷ [])) ≤ 2

@@ -6,15 +6,13 @@ use Prim.Native.Nat.{ℕ, _+_, _≤_, _<_}
 use native.Mathlib.Nat.{zero-add}
 use native.Mathlib.Numerals.{add-one, add-two}
 use borrow.Author.Tests.{lt-ltb, le-ltb}
-use lib.Bits.{bitXor}
 use lib.ListN.{length, set, length-append}
 use lib.Seq.{sets}
 use Rattle.base.specs.Filling.{denied, written}
 use Rattle.base.proofs.Places.{sets-append, sets-placed}
 use Rattle.base.proofs.Filling.{fitted-short, fitted-room}
-use Rattle.link_frame.proofs.Check.{check-byte}
 use Rattle.link_frame.specs.ControlBytes.{ETX, DLE}
-use Rattle.link_frame.specs.Frame.{doubled, xorOver, checked, checkByte, frameOf, framing}
+use Rattle.link_frame.specs.Frame.{doubled, checked, checkByte, frameOf, framing}
 use Rattle.link_frame.specs.Writing.{Writing, writing}
 use Rattle.refusal.specs.Writing.{fillingOf}
 use Rattle.refusal.specs.declared.WriteAnswer.the-variants.{Written}
@@ -29,17 +27,17 @@ length-frame d = rw (frame-bytes d) (simp length-append)
 
 -- what the stores of DLE, ETX and the check byte leave
 abbrev pub closed : ℕ → ℕ → List ℕ → List ℕ
-closed n c l = set (set (set l n DLE) (n + 1) ETX) (n + 2) (bitXor (bitXor c DLE) ETX)
+closed n c l = set (set (set l n DLE) (n + 1) ETX) (n + 2) c
 
 module _ (d out : List ℕ) where
-  pub frame-stores : closed (length (doubled d)) (xorOver 0 (doubled d)) (sets out 0 (doubled d)) ≡ sets out 0 (frameOf d)
-  frame-stores = rw (frame-bytes d, sets-append out 0 (doubled d), check-byte d, zero-add, add-one, add-two)
+  frame-stores : closed (length (doubled d)) (checkByte d) (sets out 0 (doubled d)) ≡ sets out 0 (frameOf d)
+  frame-stores = rw (frame-bytes d, sets-append out 0 (doubled d), zero-add, add-one, add-two)
 
   -- the three stores behind the doubled data make the frame
-  pub frame-written : {w : Writing} → w ≡ writing 0 0 (doubled d) out → length (doubled d) + 3 ≤ length out →
-      fillingOf (Written (w .at + 3)) (closed (w .at) (w .check) (w .output)) ≡ written (frameOf d) out
+  pub frame-written : {w : Writing} → w ≡ writing 0 (doubled d) out → length (doubled d) + 3 ≤ length out →
+      fillingOf (Written (w .at + 3)) (closed (w .at) (checkByte d) (w .output)) ≡ written (frameOf d) out
   frame-written e h =
-      ap (λ (w : Writing). fillingOf (Written (w .at + 3)) (closed (w .at) (w .check) (w .output))) e
+      ap (λ (w : Writing). fillingOf (Written (w .at + 3)) (closed (w .at) (checkByte d) (w .output))) e
       ∙ rw (zero-add (length (doubled d)), frame-stores, ← length-frame d, sets-placed (frameOf d) out (rw length-frame h))
 
   pub framing-long : 1024 < length d → framing d out ≡ denied 12 out

@@ -1,3 +1,4 @@
+pub mod Xor
 pub mod Check
 pub mod Steps
 pub mod Doubling

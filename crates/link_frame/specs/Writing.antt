@@ -1,4 +1,4 @@
--- Bytes written one after the other. Only contracts of private functions cite this file.
+-- Bytes written one after the other, and tests of every byte. Only contracts of private functions cite this file.
 -- Assumes nothing.
 use Prim.Native.Nat.{ℕ, _+_}
 use mathlib.Core.Bool.{Bool, true, _&&_, not}
@@ -7,23 +7,26 @@ use lib.Dec.{eqb}
 use lib.ListN.{length}
 use lib.Seq.{sets}
 use Rattle.link_frame.specs.ControlBytes.{DLE}
-use Rattle.link_frame.specs.Frame.{xorOver}
-use Rattle.link_frame.specs.declared.Progress.{Progress}
 
--- the next place, the check over what was written, and the output
+-- the next place, and the output
 pub record Writing : Type 0 where
   pub at : ℕ
-  pub check : ℕ
   pub output : List ℕ
 
-abbrev pub writingOf : Progress → List ℕ → Writing
-writingOf p out = record { at = p .at; check = p .check; output = out }
+abbrev pub writingOf : ℕ → List ℕ → Writing
+writingOf at out = record { at = at; output = out }
 
--- bytes written from a place on, and taken into a check
-abbrev pub writing : ℕ → ℕ → List ℕ → List ℕ → Writing
-writing at check bytes out = record { at = at + length bytes; check = xorOver check bytes; output = sets out at bytes }
+-- bytes written from a place on
+abbrev pub writing : ℕ → List ℕ → List ℕ → Writing
+writing at bytes out = writingOf (at + length bytes) (sets out at bytes)
 
--- no byte of a list is a DLE
-unfoldable pub noDle : List ℕ → Bool
-noDle [] = true
-noDle (b ∷ bs) = not (eqb b DLE) && noDle bs
+-- a test holds of every byte of a list
+unfoldable pub every : (ℕ → Bool) → List ℕ → Bool
+every test [] = true
+every test (b ∷ bs) = test b && every test bs
+
+abbrev pub isDle : ℕ → Bool
+isDle b = eqb b DLE
+
+abbrev pub isOther : ℕ → Bool
+isOther b = not (eqb b DLE)

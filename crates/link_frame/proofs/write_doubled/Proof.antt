@@ -4,7 +4,7 @@ use Prim.Native.Nat.{ℕ, _≤_, _+_, _-_}
 use mathlib.Core.Path.{_≡_, refl, ap, _∙_}
 use native.Mathlib.Omega.{arith}
 use borrow.Author.Needs.{needs}
-use lib.ListN.{length, drop}
+use lib.ListN.{length, drop, length-take, length-drop}
 use Rattle.link_frame.specs.Frame.{doubled}
 use Rattle.link_frame.specs.Writing.{Writing, writing}
 use Rattle.link_frame.proofs.Doubling.{next-part, last-part}
@@ -17,12 +17,12 @@ abbrev PART : ℕ
 PART = 16
 
 abbrev Inv-loop : tie.InvT-loop
-Inv-loop src out₀ n at₀ check₀ i₀ out at check i =
+Inv-loop src out₀ n at₀ i₀ out at i =
     (n ≡ length src) × (i ≤ n) × (length out ≡ length out₀)
-    × (writing at check (doubled (drop i src)) out ≡ writing 0 0 (doubled src) out₀)
+    × (writing at (doubled (drop i src)) out ≡ writing 0 (doubled src) out₀)
 
 abbrev μ-loop : tie.MeasureT-loop
-μ-loop src out₀ n at₀ check₀ i₀ out at check i = n - i
+μ-loop src out₀ n at₀ i₀ out at i = n - i
 
 loop-holds : tie.Need-loop-holds Inv-loop μ-loop
 loop-holds c = (refl, omega arith, refl, refl)
@@ -46,7 +46,7 @@ write-part-requires : tie.Need-write-part-requires Inv-loop μ-loop
 write-part-requires c κs =
     let v = c .before .before .before .loop in
     let e = next-part (c .before .before .before .before .before .before .args .src .now) (v .i) (v .i + PART) (omega arith) in
-    omega (arith, place (writing-step e (v .at) (v .check) (v .out) (v .inv .3)))
+    (simp (length-take, length-drop) (omega arith), omega (arith, place (writing-step e (v .at) (v .out) (v .inv .3))))
 
 loop-less : tie.Need-loop-less Inv-loop μ-loop
 loop-less c = search needs
@@ -60,8 +60,8 @@ loop-again c =
       refl,
       omega arith,
       p .kept .1 .0 ∙ v .inv .2,
-      ap (λ (w : Writing). writing (w .at) (w .check) (doubled (drop (v .i + PART) src)) (w .output)) (p .ensures)
-          ∙ writing-step e (v .at) (v .check) (v .out) (v .inv .3),
+      ap (λ (w : Writing). writing (w .at) (doubled (drop (v .i + PART) src)) (w .output)) (p .ensures)
+          ∙ writing-step e (v .at) (v .out) (v .inv .3),
     )
 
 sub-write-doubling : tie.Need-sub-write-doubling Inv-loop μ-loop

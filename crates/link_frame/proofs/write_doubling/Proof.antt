@@ -5,7 +5,7 @@ use mathlib.Core.Path.{_≡_, refl, ap}
 use native.Mathlib.Numerals.{add-one}
 use native.Mathlib.Omega.{arith}
 use lib.ListN.{length, drop, length-set}
-use Rattle.link_frame.specs.Frame.{doubled, xorOver}
+use Rattle.link_frame.specs.Frame.{doubled}
 use Rattle.link_frame.specs.Writing.{writing}
 use Rattle.link_frame.proofs.Doubling.{Twice, Once, none-left, next-dle, next-other}
 use Rattle.link_frame.proofs.Steps.{writing-step, writing-end, place}
@@ -13,12 +13,12 @@ use Rattle.link_frame.proofs.write_doubling.Statement.{statement}
 use Rattle.link_frame.proofs.write_doubling.Tie as tie
 
 abbrev Inv-loop : tie.InvT-loop
-Inv-loop part out₀ from start at₀ check₀ i₀ out at check i =
+Inv-loop part out₀ from at₀ i₀ out at i =
     (i ≤ length part) × (length out ≡ length out₀)
-    × (writing at check (doubled (drop i part)) out ≡ writing from start (doubled part) out₀)
+    × (writing at (doubled (drop i part)) out ≡ writing from (doubled part) out₀)
 
 abbrev μ-loop : tie.MeasureT-loop
-μ-loop part out₀ from start at₀ check₀ i₀ out at check i = length part - i
+μ-loop part out₀ from at₀ i₀ out at i = length part - i
 
 -- what is left at a DLE and at another byte
 dle : (c : tie.Then1 Inv-loop μ-loop) → Twice (c .before .before .before .before .args .part .now) (c .before .before .before .loop .i)
@@ -57,12 +57,11 @@ loop-less : tie.Need-loop-less Inv-loop μ-loop
 loop-less c = omega arith
 
 loop-again : tie.Need-loop-again Inv-loop μ-loop
-unfolding xorOver
 loop-again c =
     let v = c .before .before .before .loop in (
       omega arith,
       simp length-set (v .inv .1),
-      rw (add-one (v .at)) (writing-step (dle c) (v .at) (v .check) (v .out) (v .inv .2)),
+      rw (add-one (v .at)) (writing-step (dle c) (v .at) (v .out) (v .inv .2)),
     )
 
 slice-write-out-3 : tie.Need-slice-write-out-3 Inv-loop μ-loop
@@ -75,10 +74,9 @@ loop-less-2 : tie.Need-loop-less-2 Inv-loop μ-loop
 loop-less-2 c = omega arith
 
 loop-again-2 : tie.Need-loop-again-2 Inv-loop μ-loop
-unfolding xorOver
 loop-again-2 c =
     let v = c .before .before .before .loop in
-    (omega arith, simp length-set (v .inv .1), writing-step (other c) (v .at) (v .check) (v .out) (v .inv .2))
+    (omega arith, simp length-set (v .inv .1), writing-step (other c) (v .at) (v .out) (v .inv .2))
 
 same-length : tie.Need-same-length Inv-loop μ-loop
 same-length c = c .before .loop .inv .1
@@ -87,7 +85,7 @@ returns : tie.Need-returns Inv-loop μ-loop
 returns c =
     let v = c .before .loop in
     let none = none-left (c .before .before .args .part .now) (v .i) (c .loop-test .left) in
-    writing-end none (v .at) (v .check) (v .out) (v .inv .2)
+    writing-end none (v .at) (v .out) (v .inv .2)
 
 pub write-doubling-spec : {M : Type 1} → statement M
 write-doubling-spec =

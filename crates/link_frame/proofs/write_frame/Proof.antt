@@ -20,22 +20,26 @@ add-out c = omega (arith, place (c .before .before .write-doubled .ensures))
 slice-write-out-2 : tie.Need-slice-write-out-2
 slice-write-out-2 c = simp length-set (omega (arith, place (c .before .before .write-doubled .ensures)))
 
+check-byte-requires : tie.Need-check-byte-requires
+check-byte-requires c κs = omega (arith, place (c .before .before .write-doubled .ensures))
+
 add-out-2 : tie.Need-add-out-2
-add-out-2 c = omega (arith, place (c .before .before .write-doubled .ensures))
+add-out-2 c = omega (arith, place (c .before .before .before .write-doubled .ensures))
 
 slice-write-out-3 : tie.Need-slice-write-out-3
-slice-write-out-3 c = simp length-set (omega (arith, place (c .before .before .write-doubled .ensures)))
+slice-write-out-3 c = simp length-set (omega (arith, place (c .before .before .before .write-doubled .ensures)))
 
-add-t9 : tie.Need-add-t9
-add-t9 c = omega (arith, place (c .before .before .write-doubled .ensures))
+add-t7 : tie.Need-add-t7
+add-t7 c = omega (arith, place (c .before .before .before .write-doubled .ensures))
 
 same-length : tie.Need-same-length
 same-length c = search needs
 
 returns : tie.Need-returns
 returns c =
-    let a = c .before .before .before .before .before .before .args in
-    frame-written (a .src .now) (a .out .now) (c .before .before .write-doubled .ensures) (omega arith)
+    let a = c .before .before .before .before .before .before .before .args in
+    let p = c .before .before .before .write-doubled in
+    rw (c .check-byte .ensures) (frame-written (a .src .now) (a .out .now) (p .ensures) (omega arith))
 
 pub write-frame-spec : {M : Type 1} → statement M
 write-frame-spec =
@@ -45,8 +49,9 @@ write-frame-spec =
     slice-write-out
     add-out
     slice-write-out-2
+    check-byte-requires
     add-out-2
     slice-write-out-3
-    add-t9
+    add-t7
     same-length
     returns)

@@ -4,7 +4,6 @@ use Prim.Native.Nat.{_≤_, _+_, _-_}
 use mathlib.Core.Path.{_≡_, refl}
 use native.Mathlib.Omega.{arith}
 use lib.ListN.{length, drop, length-set, drop-of-length-le}
-use Rattle.link_frame.specs.Frame.{xorOver}
 use Rattle.link_frame.specs.Writing.{writing}
 use Rattle.link_frame.proofs.Doubling.{next-byte}
 use Rattle.link_frame.proofs.Steps.{writing-step, writing-end}
@@ -12,12 +11,12 @@ use Rattle.link_frame.proofs.write_plain.Statement.{statement}
 use Rattle.link_frame.proofs.write_plain.Tie as tie
 
 abbrev Inv-loop : tie.InvT-loop
-Inv-loop part out₀ from start at₀ check₀ i₀ out at check i =
+Inv-loop part out₀ from at₀ i₀ out at i =
     (i ≤ length part) × (length out ≡ length out₀) × (at ≡ from + i)
-    × (writing at check (drop i part) out ≡ writing from start part out₀)
+    × (writing at (drop i part) out ≡ writing from part out₀)
 
 abbrev μ-loop : tie.MeasureT-loop
-μ-loop part out₀ from start at₀ check₀ i₀ out at check i = length part - i
+μ-loop part out₀ from at₀ i₀ out at i = length part - i
 
 loop-holds : tie.Need-loop-holds Inv-loop μ-loop
 loop-holds c = (omega arith, refl, omega arith, refl)
@@ -38,7 +37,6 @@ loop-less : tie.Need-loop-less Inv-loop μ-loop
 loop-less c = omega arith
 
 loop-again : tie.Need-loop-again Inv-loop μ-loop
-unfolding xorOver
 loop-again c =
     let a = c .before .before .before .args in
     let v = c .before .before .loop in
@@ -46,7 +44,7 @@ loop-again c =
       omega arith,
       simp length-set (v .inv .1),
       omega arith,
-      writing-step e (v .at) (v .check) (v .out) (v .inv .3),
+      writing-step e (v .at) (v .out) (v .inv .3),
     )
 
 same-length : tie.Need-same-length Inv-loop μ-loop
@@ -56,7 +54,7 @@ returns : tie.Need-returns Inv-loop μ-loop
 returns c =
     let v = c .before .loop in
     let none = drop-of-length-le (c .before .before .args .part .now) (c .loop-test .left) in
-    writing-end none (v .at) (v .check) (v .out) (v .inv .3)
+    writing-end none (v .at) (v .out) (v .inv .3)
 
 pub write-plain-spec : {M : Type 1} → statement M
 write-plain-spec =
