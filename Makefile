@@ -33,9 +33,9 @@ staticlib:
 
 # Measures the library beside plain Rust written for speed, and prints how; then the times of the last make test.
 bench: staticlib
-	@cargo run --offline --quiet --release --manifest-path rust/Cargo.toml -p compare --bin bench
+	@env -u HANRAQUIN_LIB_DIR cargo run --offline --quiet --release --manifest-path rust/Cargo.toml -p compare --bin bench
 	@sh scripts/times
 
 # Goes on comparing the library with the reference, with ever new inputs.
 soak: staticlib
-	@cargo run --offline --quiet --release --manifest-path rust/Cargo.toml -p compare --bin compare -- --soak $(MINUTES) $(SEED)
+	@env -u HANRAQUIN_LIB_DIR cargo run --offline --quiet --release --manifest-path rust/Cargo.toml -p compare --bin compare -- --soak $(MINUTES) $(SEED)

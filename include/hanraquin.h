@@ -199,8 +199,9 @@ static inline uint16_t hanraquin_word(const uint8_t *two_bytes)
 }
 
 /*
- * Writes the frame of data: each byte once, but 0x10 twice; then 10 03; then the check byte, which is the exclusive or of
- * all bytes before it. The STX that opens a block on the cable is no part of the frame: send it first.
+ * Writes the frame of data: the data with every 0x10 in it doubled, closed by 10 03, and at its end a check byte, which is
+ * all that stands before it, taken together by exclusive or. The STX that opens a block on the cable is no part of the
+ * frame: send it first.
  *
  *     data    0 to 1024 bytes
  *     out     2051 places are always enough, and 2 x data_len + 3 for this data
@@ -247,7 +248,8 @@ uint64_t hanraquin_frame(const uint8_t *data, size_t data_len, uint8_t *out, siz
  *     3                other byte        256 + 0x15                        0
  *     1, 2, 3          timer             256 + 0x15                        0
  *
- * There is no room when the count is buffer_len or 1024. In phases 1 and 2 each byte goes into the check by exclusive or,
+ * A stored byte is put at the place of the count, which is then one more. There is no room when the count is buffer_len or
+ * 1024. In phases 1 and 2 each byte goes into the check by exclusive or,
  * unless the event ends at rest.
  *
  * A loop; byte_or_timer waits for a byte, and no longer than its argument says, which is 0 for "without end". How long a
@@ -279,7 +281,7 @@ uint64_t hanraquin_receive(uint64_t *state, size_t state_len, uint32_t event, ui
  *     telegram     any bytes
  *     out          1024 places are always enough
  *
- * Refusals
+ * Refusals, and not mine
  *     1                own is not 1 to 240, or registers_len is not 18
  *     12, 2 to 6       a fault of the header, in the order given above
  *     255 not mine     the first entry of the block is not own
@@ -328,7 +330,7 @@ uint64_t hanraquin_write_request(const uint8_t *route, size_t route_len, uint16_
  *     route       31 places
  *     run         3 places
  *
- * Refusals
+ * Refusals, and not mine
  *     1                route_len is not 31, or run_len is not 3
  *     12, 2 to 6       a fault of the header, in the order given above, as it is read at the centre
  *     255 not mine     the first entry of the block is not 0: the reply is for a relay

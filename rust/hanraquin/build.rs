@@ -1,7 +1,9 @@
 //! Finds the proved library, `libc_interface.a`, and has it linked.
 //!
-//! It is looked for in the folder that `HANRAQUIN_LIB_DIR` names, or else in `target/staticlib`
-//! of the repository, where `rt staticlib c_interface` puts it. That is run if it is not there.
+//! It is looked for in the folder that `HANRAQUIN_LIB_DIR` names by an absolute path, or else in
+//! `target/staticlib` of the repository, where `rt staticlib c_interface` puts it. That is run if
+//! it is not there. An archive that is there is taken as it is: after a change in `crates/`, run
+//! `make staticlib` first.
 
 use std::env;
 use std::io;
@@ -29,7 +31,7 @@ fn main() -> ExitCode {
 
 /// The folder that holds the archive.
 fn folder() -> Result<PathBuf, String> {
-    if let Some(named) = env::var_os("HANRAQUIN_LIB_DIR") {
+    if let Some(named) = env::var_os("HANRAQUIN_LIB_DIR").filter(|named| !named.is_empty()) {
         let folder = PathBuf::from(named);
         return if folder.join(ARCHIVE).is_file() {
             Ok(folder)

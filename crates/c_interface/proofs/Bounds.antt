@@ -11,6 +11,10 @@ use lib.ListN.{length}
 use Rattle.base.specs.Choice.{pick}
 use Rattle.base.specs.Filling.{Given, filled, refused, Filling, denied, fitted}
 use Rattle.base.proofs.Choice.{pick-either}
+use Rattle.refusal.specs.Numbers.{numberOf}
+use Rattle.refusal.specs.declared.Refusal.{Refusal}
+use Rattle.refusal.specs.declared.Refusal.the-variants.{Setup, HeaderCut, ExtendedCount, Block, Mark, BodyLength, NoRegister, NoWrite, ValueRange, OutputShort, TooLong}
+use Rattle.refusal.specs.declared.Refusal.the-variants as refusals
 use Rattle.link_frame.specs.Frame.{frameOf, framing, maxData}
 use Rattle.link_frame.proofs.Doubling.{doubled-bound}
 use Rattle.link_frame.proofs.Framing.{length-frame}
@@ -34,10 +38,10 @@ use Rattle.centre_laws.specs.ReadBack.{maxRequest}
 use Rattle.centre_laws.proofs.Requests.{request-most}
 use Rattle.journey.specs.Bounded.{mostTransmissions}
 use Rattle.net.specs.DryRun.{runOutput}
-use Rattle.c_interface.specs.Link.{shortMessage}
+use Rattle.c_interface.specs.Link.{smallResponse}
 use Rattle.c_interface.specs.Net.{smallRun}
 use Rattle.c_interface.specs.Bounds.{maxFrame, ValueBounds}
-use Rattle.c_interface.proofs.Messages.{message-short}
+use Rattle.c_interface.proofs.Messages.{response-small}
 use Rattle.c_interface.proofs.Replies.{values-within, telegram-short}
 use Rattle.c_interface.proofs.Runs.{small-run}
 
@@ -137,14 +141,30 @@ station-bound own t telegram out =
     pick-either (λ (r : Handling). Sends (r .handled)) (not (isAddress own && eqb (length t) tableLength)) tt
     (hear-sends own t telegram out (reading Station telegram .finding) refl)
 
+number-bound : (r : Refusal) → (1 ≤ numberOf r) × (numberOf r ≤ 12)
+number-bound Setup = (omega arith, omega arith)
+number-bound HeaderCut = (omega arith, omega arith)
+number-bound refusals.Function = (omega arith, omega arith)
+number-bound ExtendedCount = (omega arith, omega arith)
+number-bound Block = (omega arith, omega arith)
+number-bound Mark = (omega arith, omega arith)
+number-bound BodyLength = (omega arith, omega arith)
+number-bound NoRegister = (omega arith, omega arith)
+number-bound NoWrite = (omega arith, omega arith)
+number-bound ValueRange = (omega arith, omega arith)
+number-bound OutputShort = (omega arith, omega arith)
+number-bound TooLong = (omega arith, omega arith)
+
 pub value-bounds : ValueBounds
 value-bounds = record {
+  refusal = number-bound;
   frame = λ d out n e. subst (Within maxFrame) e (frame-bound d out);
-  message = λ s e buf b n is. leb-true n maxData (ap shortMessage (sym is) ∙ message-short s e buf);
+  byte = λ s e buf b is. leb-true b 255 (ap smallResponse (sym is) ∙ response-small s e buf);
+  message = λ s e buf b n is. leb-true n maxData (ap smallResponse (sym is) ∙ response-small s e buf);
   station = λ own t telegram out n e. subst Sends e (station-bound own t telegram out);
   request = λ route rStart rCount wStart values out n e. subst (Within maxRequest) e (request-bound route rStart rCount wStart values out);
   reply = λ telegram a. omega (arith, values-within telegram a, telegram-short telegram a);
   run = λ telegram addresses tables out count e n is.
-      leb-true count mostTransmissions
-      (and-eq-true-iff (leb count mostTransmissions) (leb n runOutput) .0 (ap smallRun (sym is) ∙ small-run telegram addresses tables out) .0);
+      let p = and-eq-true-iff (leb count mostTransmissions) (leb n runOutput) .0 (ap smallRun (sym is) ∙ small-run telegram addresses tables out) in
+      (leb-true count mostTransmissions (p .0), leb-true n runOutput (p .1));
 }

@@ -1,4 +1,4 @@
--- No message is longer than a block holds.
+-- No message is longer than a block holds, and what is sent is a byte.
 -- Assumes nothing.
 use mathlib.Core.Path.{_≡_, refl, sym, _∙_, ap}
 use mathlib.Core.Bool.{Bool, true, false, _||_}
@@ -22,14 +22,14 @@ use Rattle.link_receive.specs.declared.LinkEvent.{LinkEvent}
 use Rattle.link_receive.specs.declared.LinkEvent.the-variants.{Byte, Timer}
 use Rattle.link_receive.specs.declared.LinkAnswer.{LinkAnswer}
 use Rattle.link_receive.specs.declared.LinkAnswer.the-variants.{Message}
-use Rattle.c_interface.specs.Link.{shortMessage}
+use Rattle.c_interface.specs.Link.{smallResponse}
 
 -- of an answer that is a message
-pub message-bound : (n : ℕ) {a : LinkAnswer} → shortMessage (responseOf a) ≡ true → a ≡ Message n → n ≤ maxData
-message-bound n short told = leb-true n maxData (sym (ap (λ (x : LinkAnswer). shortMessage (responseOf x)) told) ∙ short)
+pub message-bound : (n : ℕ) {a : LinkAnswer} → smallResponse (responseOf a) ≡ true → a ≡ Message n → n ≤ maxData
+message-bound n short told = leb-true n maxData (sym (ap (λ (x : LinkAnswer). smallResponse (responseOf x)) told) ∙ short)
 
 abbrev short : Reaction → Type 0
-short r = shortMessage (r .response) ≡ true
+short r = smallResponse (r .response) ≡ true
 
 abbrev shortOut : Outcome → Type 0
 shortOut o = short (o .reaction)
@@ -69,6 +69,6 @@ by-limit s e buf true u is = refl
 by-limit s e buf false true is = refl
 by-limit s e buf false false is = event-short e (s .phase) (s .count) (s .check) buf (ltb-false maxData (s .count) is)
 
-pub message-short : (s : LinkState) (e : LinkEvent) (buf : List ℕ) → shortMessage (receiveOf s e buf .reaction .response) ≡ true
+pub response-small : (s : LinkState) (e : LinkEvent) (buf : List ℕ) → smallResponse (receiveOf s e buf .reaction .response) ≡ true
 unfolding receiveOf against
-message-short s e buf = by-limit s e buf (ltb (length buf) (s .count)) (ltb maxData (s .count)) refl
+response-small s e buf = by-limit s e buf (ltb (length buf) (s .count)) (ltb maxData (s .count)) refl

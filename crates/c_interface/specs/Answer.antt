@@ -4,7 +4,7 @@ use Prim.Native.Nat.{ℕ, _*_}
 use Rattle.base.specs.Filling.{Given, filled}
 use Rattle.base.specs.Filling as writing
 
--- bits 0 to 31 are a value, bits 32 to 39 the kind of the answer
+-- the low 32 bits are a value, and the eight above them are the kind of the answer: what one step of the kind counts
 abbrev pub kinds : ℕ
 kinds = 4294967296
 

@@ -41,6 +41,7 @@ phaseNumber (Inside NotSeen) = 1
 phaseNumber (Inside Seen) = 2
 phaseNumber Waiting = 3
 
+-- and the other way round, for the numbers that `isState` takes
 unfoldable pub dleAt : ℕ → Dle
 dleAt n = pick (eqb n 2) Seen NotSeen
 
@@ -88,9 +89,9 @@ receiveCall words event buf =
     (receivedBy (receiveOf (stateAt words) (eventAt event) buf))
     (received (refused 1) words buf)
 
--- a message is no longer than a block holds
-abbrev pub shortMessage : Response → Bool
-shortMessage (delivers b n) = leb n maxData
-shortMessage nothing = true
-shortMessage (sends b) = true
-shortMessage (refuses k) = true
+-- a message is no longer than a block holds, and what is sent is a byte
+abbrev pub smallResponse : Response → Bool
+smallResponse (delivers b n) = leb n maxData
+smallResponse (sends b) = leb b 255
+smallResponse nothing = true
+smallResponse (refuses k) = true

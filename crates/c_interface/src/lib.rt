@@ -1,5 +1,5 @@
-// The library's calls as functions for C. Each gives its answer as one number: bits 0 to 31 a value, bits 32 to 39 the kind, 0
-// for done, 255 for "not mine", else the number of the refusal. include/hanraquin.h says it for the programmer.
+// The library's calls as functions for C. The answer of each is one number, a value in its low half and a kind above it: 0 for
+// done, 255 for "not mine", else the number of the refusal. include/hanraquin.h says it for the programmer.
 use link_frame::MAX_DATA;
 use link_receive::Dle;
 use link_receive::LinkAnswer;
@@ -26,7 +26,7 @@ ghost use Rattle.mop_centre.specs.Reply.{replyReading};
 ghost use Rattle.net.specs.Hop.{endingOf};
 ghost use Rattle.net.specs.DryRun.{outcomeOf};
 ghost use Rattle.c_interface.specs.Answer.{refused, ofWriting};
-ghost use Rattle.c_interface.specs.Link.{written, frameCall, dleAt, phaseNumber, phaseAt, stateWords, stateAt, isState, eventAt, ofResponse, shortMessage, received, receivedBy, receiveCall};
+ghost use Rattle.c_interface.specs.Link.{written, frameCall, dleAt, phaseNumber, phaseAt, stateWords, stateAt, isState, eventAt, ofResponse, smallResponse, received, receivedBy, receiveCall};
 ghost use Rattle.c_interface.specs.Station.{ofHandled, atStation, stationCall};
 ghost use Rattle.c_interface.specs.Centre.{writeRequestCall, hasReplyPlaces, replyTold, replyToldBy, readReplyCall};
 ghost use Rattle.c_interface.specs.Net.{endingNumber, smallRun, ofOutcome, resultAfter, ran, dryRunCall};
@@ -111,7 +111,7 @@ fn event_at(n: u32) -> LinkEvent
 
 // The answer to an event.
 fn of_response(answer: LinkAnswer) -> u64
-    requires { ⌜ shortMessage (responseOf answer) ≡ true ⌝ }
+    requires { ⌜ smallResponse (responseOf answer) ≡ true ⌝ }
     ensures { λ r. ⌜ r ≡ ofResponse (responseOf answer) ⌝ }
 {
     match answer {

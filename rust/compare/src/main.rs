@@ -92,12 +92,13 @@ fn direct_calls(seed: u64) -> bool {
     for seed in (0..SEEDS).map(|more| seed.wrapping_add(more)) {
         let before = checker.calls();
         checker.reseed(seed);
+        println!("  seed {seed} ..");
         if let Err(Stop::Wrong(difference)) = direct::pass(seed, &mut checker) {
             println!("{difference}");
             return false;
         }
         let calls = checker.calls() - before;
-        println!("  seed {seed}: {calls} calls of each, all as expected");
+        println!("    {calls} calls of each, all as expected");
     }
     let (calls, seconds) = (checker.calls(), checker.elapsed().as_secs_f64());
     println!("direct calls: {calls} of each, {seconds:.1} s, no difference");

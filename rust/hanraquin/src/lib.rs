@@ -78,7 +78,9 @@
 //!
 //! `make staticlib` in the root of the repository writes the library to `target/staticlib`; the
 //! build script of this crate has it written if it is not there, or takes it from the folder that
-//! `HANRAQUIN_LIB_DIR` names. It is for x86-64 Linux, and needs `memcpy` and `memset`.
+//! `HANRAQUIN_LIB_DIR` names by an absolute path. An archive that is there is taken as it is: after
+//! a change in `crates/`, run `make staticlib` first. It is for x86-64 Linux, and needs `memcpy` and
+//! `memset`.
 
 #![no_std]
 #![deny(missing_docs)]

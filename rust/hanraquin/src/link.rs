@@ -48,8 +48,8 @@ pub const FRAME_MAX: usize = 2051;
 
 /// Writes the frame of `data` into the first places of `out`, and gives these.
 ///
-/// A frame is each byte of the data once, but 10 twice; then 10 03; then the check byte, which is
-/// the exclusive or of all bytes before it.
+/// A frame has the data with every 10 in it doubled, closed by 10 03, and at its end a check byte:
+/// all that stands before it, taken together by exclusive or.
 ///
 /// # Errors
 ///
@@ -165,9 +165,10 @@ impl Receiver {
     ///
     /// # Errors
     ///
-    /// [`Setup`](Refusal::Setup) where the receiver has more data than this buffer has places, as
-    /// it can only have from a longer one; receiver and buffer are as they were then. A receiver
-    /// that is always lent the same buffer is never refused.
+    /// [`Setup`](Refusal::Setup) where the receiver has more data than this buffer has places, or
+    /// has a state that cannot be ([`from_state`](Receiver::from_state)); receiver and buffer are
+    /// as they were then. A receiver made by [`new`](Receiver::new) that is always lent the same
+    /// buffer is never refused.
     ///
     /// ```
     /// use hanraquin::{Answer, Event, Receiver, NAK, STX};

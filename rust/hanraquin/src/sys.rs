@@ -1,16 +1,18 @@
 //! The proved library as it is: six functions over pointers and lengths, as `include/hanraquin.h`
 //! declares them. Nothing checks these declarations against the library.
 //!
-//! Every function gives 64 bits: a value in bits 0 to 31, and in bits 32 to 39 the kind, which is
-//! [`DONE`], [`NOT_MINE`] or the number of a refusal. The value is 0 unless the kind is [`DONE`],
-//! and bits 40 to 63 are 0.
+//! Every function gives 64 bits: a value in the low 32, and above it a kind of eight bits, which is
+//! [`DONE`], [`NOT_MINE`] or the number of a refusal. Only with [`DONE`] there is a value, and all
+//! other bits are 0. [`kind`] and [`value`] take an answer apart.
 //!
 //! # Safety
 //!
 //! The same is asked of every call. Each slice is a pointer and the number of its elements. The
 //! pointer must not be null and must be aligned, even for a slice of no elements; so many elements
 //! must be there and hold values; and no slice that the call may write may overlap another one of
-//! the same call, or be used by anybody else while it runs. `slice::as_ptr` and
+//! the same call, or be used by anybody else while it runs. (The header for C forbids every
+//! overlap. Two slices that are only read may have bytes in common here, since safe Rust cannot
+//! keep them apart.) `slice::as_ptr` and
 //! `slice::as_mut_ptr` give such pointers. Any lengths and contents are allowed.
 
 /// The kind of an answer: the call did what it was asked.

@@ -2,10 +2,10 @@
 -- Assumes nothing.
 use native.Mathlib.Omega.{arith}
 use mathlib.Core.Path.{_∙_, ap}
-use Rattle.c_interface.specs.Link.{shortMessage, receivedBy}
+use Rattle.c_interface.specs.Link.{smallResponse, receivedBy}
 use Rattle.link_receive.specs.Receive.{Outcome}
 use Rattle.c_interface.proofs.States.{state-parts}
-use Rattle.c_interface.proofs.Messages.{message-short}
+use Rattle.c_interface.proofs.Messages.{response-small}
 use borrow.Author.Needs.{needs}
 use Rattle.c_interface.proofs.receive_at.Statement.{statement}
 use Rattle.c_interface.proofs.receive_at.Tie as tie
@@ -35,7 +35,7 @@ put-state-requires : tie.Need-put-state-requires
 put-state-requires c κs = state-parts _ (c .before .before .before .before .before .before .before .before .before .before .before .before .before .pre) .three
 
 of-response-requires : tie.Need-of-response-requires
-of-response-requires c κs = ap (λ (o : Outcome). shortMessage (o .reaction .response)) (c .before .before .before .before .before .before .before .receive .ensures) ∙ message-short _ _ _
+of-response-requires c κs = ap (λ (o : Outcome). smallResponse (o .reaction .response)) (c .before .before .before .before .before .before .before .receive .ensures) ∙ response-small _ _ _
 
 same-length : tie.Need-same-length
 same-length c = search needs

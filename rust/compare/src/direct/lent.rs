@@ -2,32 +2,36 @@
 
 use std::fmt::Write;
 
-/// Places before and behind every slice.
+/// The fewest places before, and the places behind every slice.
 const GUARD: usize = 16;
 
 /// A slice between guards.
 #[derive(Clone, PartialEq)]
-pub struct Guarded<T>(Vec<T>);
+pub struct Guarded<T> {
+    /// The places before the slice.
+    front: usize,
+    /// The slice with its guards.
+    all: Vec<T>,
+}
 
 impl<T: Copy> Guarded<T> {
-    /// A slice of this content, with so many times the guard on both sides.
-    fn new(content: &[T], guard: T) -> Guarded<T> {
-        let mut all = Vec::with_capacity(content.len() + 2 * GUARD);
-        all.extend([guard; GUARD]);
+    /// A slice of this content, with the guard on both sides.
+    fn new(content: &[T], front: usize, guard: T) -> Guarded<T> {
+        let mut all = vec![guard; front];
         all.extend(content);
         all.extend([guard; GUARD]);
-        Guarded(all)
+        Guarded { front, all }
     }
 
     /// The slice without its guards.
     pub fn lend(&mut self) -> &mut [T] {
-        let end = self.0.len() - GUARD;
-        &mut self.0[GUARD..end]
+        let end = self.all.len() - GUARD;
+        &mut self.all[self.front..end]
     }
 
     /// What the slice holds.
     pub fn content(&self) -> &[T] {
-        &self.0[GUARD..self.0.len() - GUARD]
+        &self.all[self.front..self.all.len() - GUARD]
     }
 }
 
@@ -35,7 +39,7 @@ impl<T: Copy + PartialEq> Guarded<T> {
     /// The first place at which two differ: 0 is that of the slice, and guards have the places
     /// before and behind it.
     fn difference(&self, other: &Guarded<T>) -> Option<(isize, T, T)> {
-        let mut places = (-(GUARD as isize)..).zip(self.0.iter().zip(&other.0));
+        let mut places = (-(self.front as isize)..).zip(self.all.iter().zip(&other.all));
         places.find_map(|(place, (&a, &b))| (a != b).then_some((place, a, b)))
     }
 }
@@ -71,9 +75,11 @@ impl Word for u64 {
 /// one time this and one time that.
 pub const AROUND: [u8; 7] = [0xC7, 0x00, 0x01, 0x10, 0xEF, 0xFF, 0x60];
 
-/// The slice of this content between guards of this byte.
+/// The slice of this content between guards of this byte. How many stand before it goes by both,
+/// so that slices lie at every distance from what is aligned in memory.
 pub fn guarded<T: Word>(content: &[T], around: u8) -> Guarded<T> {
-    Guarded::new(content, T::of(around))
+    let more = (7 * content.len() + usize::from(around)) % GUARD;
+    Guarded::new(content, GUARD + more, T::of(around))
 }
 
 /// What an output of so many places holds before a call: no two places near each other are alike.
@@ -105,21 +111,30 @@ mod tests {
         assert_eq!(told("output", &right, &right), None);
         for (place, text) in [
             (
-                0,
+                -16,
                 "output, 16 places BEFORE its start: 0, expected C7 (hex)",
             ),
             (
-                15,
+                -1,
                 "output, 1 places BEFORE its start: 0, expected C7 (hex)",
             ),
-            (17, "output, first at place 1 of 3: 0, expected 2 (hex)"),
-            (19, "output, 1 places BEHIND its end: 0, expected C7 (hex)"),
-            (34, "output, 16 places BEHIND its end: 0, expected C7 (hex)"),
+            (1, "output, first at place 1 of 3: 0, expected 2 (hex)"),
+            (3, "output, 1 places BEHIND its end: 0, expected C7 (hex)"),
+            (18, "output, 16 places BEHIND its end: 0, expected C7 (hex)"),
         ] {
             let mut wrong = right.clone();
-            wrong.0[place] = 0;
+            wrong.all[right.front.wrapping_add_signed(place)] = 0;
             assert_eq!(told("output", &wrong, &right).as_deref(), Some(text));
         }
+    }
+
+    #[test]
+    fn slices_lie_at_every_distance() {
+        let fronts =
+            (0..64).flat_map(|n| AROUND.map(|around| guarded(&vec![0u8; n], around).front));
+        let distances: std::collections::BTreeSet<usize> =
+            fronts.map(|front| front % GUARD).collect();
+        assert_eq!(distances.len(), GUARD);
     }
 
     #[test]

@@ -43,6 +43,8 @@ enum Mistake {
     InputsReadAsZero,
     /// The answer has a bit that it must not have.
     BitBehindKind,
+    /// Data is framed only where it lies at an even place of memory.
+    EvenPlaces,
 }
 
 /// The plain Rust with a mistake.
@@ -72,6 +74,9 @@ impl Calls for Wrong {
         if self.makes(Mistake::WrittenAsFarAsItFits) && kind(answer) == 11 {
             let fits = data.len().min(out.len());
             out[..fits].copy_from_slice(&data[..fits]);
+        }
+        if self.makes(Mistake::EvenPlaces) && data.as_ptr().addr() % 2 == 1 {
+            return refused(1);
         }
         if self.makes(Mistake::BitBehindKind) && data.len() == 777 {
             return answer | 1 << 40;
@@ -306,6 +311,7 @@ fn other_mistakes() {
         (Mistake::RefusedNotCounted, "dry_run", "the answer"),
         (Mistake::InputsReadAsZero, "station", "output"),
         (Mistake::BitBehindKind, "frame", "the answer"),
+        (Mistake::EvenPlaces, "frame", "the answer"),
     ] {
         check(mistake, call, what);
     }

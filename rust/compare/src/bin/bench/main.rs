@@ -108,8 +108,9 @@ fn method(options: &Options) {
   has its stack at another place. Behind it half the distance of the quartiles, in percent.
 - Ratio: time of plain Rust divided by time of the library, as the median over the pairs of
   samples, with its quartiles. At 1 and above the library is at least as fast.
-- Both are optimised (release: opt-level 3, link-time optimisation, one unit). The plain functions
-  are not inlined (inline(never)), as those of the library are in an archive and cannot be.
+- Plain Rust is optimised by cargo (release: opt-level 3, link-time optimisation, one unit), the
+  library as a whole by `rt staticlib`, which takes no options. The plain functions are not inlined
+  (inline(never)), as those of the library are in an archive and cannot be.
 - A frame is measured by its bytes of data, receiving by the bytes fed: million bytes a second.
 - Before that, library, plain Rust and reference gave the same answers and left the same buffers.
 - Seed {seed}, {processor}, {compiler}.
