@@ -2,18 +2,19 @@
 -- Assumes nothing.
 use mathlib.Core.Path.{_≡_, refl, sym, _∙_, ap, subst}
 use mathlib.Core.Bool.{true}
-use mathlib.Core.List.{List, [], _∷_, _++_, append-assoc}
+use mathlib.Core.List.{List, [], _∷_, _++_}
 use Prim.Native.Nat.{ℕ, suc, _+_, _-_, _≤_, _<_}
 use native.Mathlib.Omega.{arith}
 use borrow.Author.Tests.{eq-eqb}
 use lib.Dec.{eqb}
-use lib.ListN.{length, take, drop, replicate, length-append}
-use lib.Seq.{take-at, drop-append-seam}
+use lib.ListN.{length, take, drop, replicate}
+use lib.Seq.{drop-append-seam}
 use Rattle.base.specs.Choice.{pick}
 use Rattle.base.specs.Places.{placed}
+use Rattle.base.proofs.Places.{take-placed}
 use Rattle.registers.specs.Rows.{tableLength}
 use Rattle.mop_block.specs.Block.{first, rollRight}
-use Rattle.mop_header.specs.Header.{Head, head, headerBytes, headerLength, telegramOf, remarked, newControl}
+use Rattle.mop_header.specs.Header.{Head, head, headerBytes, headerLength, telegramOf, bodyOf, remarked, newControl}
 use Rattle.mop_header.specs.declared.Function.{Function}
 use Rattle.mop_header.specs.declared.Function.the-variants.{Request, Reply}
 use Rattle.mop_header.specs.declared.Reader.the-variants.{Station}
@@ -34,20 +35,15 @@ use Rattle.journey.proofs.Positions.{faultless-right}
 use Rattle.net.specs.Tables.{netOf, tablesOf, tablesFit}
 use Rattle.net.specs.Place.{placeIn}
 use Rattle.net.specs.DryRun.{Outcome, played, leaves, runOutput, padded}
-use Rattle.net.specs.Relays.{Turnable, Carriage, carrying, Home, continuing, Arrival}
+use Rattle.net.specs.Relays.{flagging, bytes, Carriage, carrying, Homeward, Home, continuing, Arrival}
 use Rattle.net.proofs.Tables.{set-up-fit, good-net, addresses-of-net, here, startOf, table-at-place, length-table, new-tables}
 use Rattle.net.proofs.Courses.{Summary, summaryOf, summary-gives}
 use Rattle.net.proofs.Ways.{Way, Reached, way-turns, goes-on, carried, own-mark, sets-out, way-ends, reached-short, reply-ends, one-left}
 
--- the body behind a header, in an output that the telegram was put into
-pub body-within : (h : Head) (body old : List ℕ) (n : ℕ) → n ≡ length (telegramOf h body) →
-    take (n - headerLength h) (drop (headerLength h) (placed (telegramOf h body) old)) ≡ body
-unfolding placed telegramOf headerLength
-body-within h body old n e =
-    let bytes = headerBytes h in
-    let rest = drop (length (bytes ++ body)) old in
-    let size : n - length bytes ≡ length body = omega (arith, length-append bytes body) in
-    rw (size, append-assoc bytes body rest, drop-append-seam bytes (body ++ rest)) (take-at body rest (length body) refl)
+-- the body of a telegram
+pub body-of : (h : Head) (body : List ℕ) → bodyOf h (telegramOf h body) ≡ body
+unfolding bodyOf telegramOf headerLength
+body-of h body = drop-append-seam (headerBytes h) body
 
 -- the output that the station is lent
 abbrev pub replyRoom : List ℕ
@@ -181,14 +177,19 @@ module _ (h : Head) (body : List ℕ) (gone : ℕ) (addresses tables : List ℕ)
         pub reply-length : m ≡ length (telegramOf (replied h) reply)
         reply-length = sym (same-sent (gives (replies verdict) told))
 
-        pub reply-bounds : (headerLength (replied h) ≤ m) × (m ≤ 58)
-        reply-bounds =
-            (omega (arith, reply-length, length-telegram (replied h) reply), omega (arith, reply-length, room verdict))
+        pub sent-bound : m ≤ 58
+        sent-bound = omega (arith, reply-length, room verdict)
 
-        pub reply-behind : take (m - headerLength (replied h)) (drop (headerLength (replied h)) (x .output)) ≡ reply
-        reply-behind =
-            ap (λ (g : Handling). take (m - headerLength (replied h)) (drop (headerLength (replied h)) (g .output))) (replies verdict)
-            ∙ body-within (replied h) reply replyRoom m reply-length
+        -- what it sent, as the code has it
+        abbrev sent-part : List ℕ
+        sent-part = take (m - 0) (drop 0 (x .output))
+
+        sent-is : sent-part ≡ telegramOf (replied h) reply
+        sent-is =
+            let all : m - 0 ≡ length (telegramOf (replied h) reply) = omega (arith, reply-length) in
+            ap (λ (n : ℕ). take n (drop 0 (x .output))) all
+            ∙ ap (λ (g : Handling). take (length (telegramOf (replied h) reply)) (drop 0 (g .output))) (replies verdict)
+            ∙ take-placed (telegramOf (replied h) reply) replyRoom
 
         -- the net afterwards
         abbrev net′ : Net
@@ -239,28 +240,25 @@ module _ (h : Head) (body : List ℕ) (gone : ℕ) (addresses tables : List ℕ)
             let same : x .registers ≡ afterWrites body table = ap (λ (g : Handling). g .registers) (replies verdict) in
             rw (x′ .outcome, x′ .output) (summary-gives out (reply-ends reached) (rw same (tables-with (afterWrites body table) long′)))
 
-        -- the same, as the code has it: g is the header of the reply, and l its length
-        module _ {g : Head} {l : ℕ} (eg : g ≡ replied h) (el : l ≡ headerLength g) where
-          abbrev behind : List ℕ
-          behind = take (m - l) (drop l (x .output))
-
+        -- the same, as the code has it: g is the header of the reply
+        module _ {g : Head} (eg : g ≡ replied h) where
           abbrev way-home : Carriage
           way-home = carrying (mostTransmissions - (gone + 1)) addresses (gone + 1) g
 
-          behind-is : behind ≡ reply
-          behind-is = rw (el, eg) reply-behind
+          body-is : bodyOf g sent-part ≡ reply
+          body-is = ap (λ (z : Head). bodyOf z sent-part) eg ∙ ap (bodyOf (replied h)) sent-is ∙ body-of (replied h) reply
 
-          pub part-bounds : (l ≤ m) × (m ≤ 58)
-          part-bounds = rw (el, eg) reply-bounds
+          pub homeward : {known : List ℕ} → known ≡ flagging (replicate bytes 0) addresses → Homeward g sent-part (gone + 1) known addresses
+          homeward known = record {
+            turns = rw (eg, is′) (way-turns way′);
+            whole = ap (telegramOf g) body-is ∙ ap (λ (z : Head). telegramOf z reply) eg ∙ sym sent-is;
+            most = one-more;
+            known = known;
+            short = rw (body-is, eg) home-short;
+          }
 
-          pub reply-turns : Turnable g
-          reply-turns = rw (eg, is′) (way-turns way′)
-
-          pub sent-short : length (telegramOf (way-home .head) behind) ≤ runOutput
-          sent-short = rw (behind-is, eg) home-short
-
-          pub arrival-sent : {o : Outcome} {out output : List ℕ} → Home way-home behind out o output →
+          pub arrival-sent : {o : Outcome} {out output : List ℕ} → Home way-home (bodyOf g sent-part) out o output →
               leaves o after output ≡ continuing gone (playing mostTransmissions net (telegramOf h body)) out
           arrival-sent {o} {out} {output} x′ =
               arrival-answered (subst (λ (z : Head). Home (carrying (mostTransmissions - (gone + 1)) addresses (gone + 1) z) reply out o output) eg
-              (subst (λ (y : List ℕ). Home way-home y out o output) behind-is x′))
+              (subst (λ (y : List ℕ). Home way-home y out o output) body-is x′))

@@ -8,6 +8,7 @@ mod Relays
 mod Courses
 pub mod Outputs
 mod Turns
+mod Passages
 mod Ways
 mod Arrivals
 mod Plays

@@ -2,10 +2,11 @@
 -- Assumes nothing.
 use mathlib.Core.Path.{_≡_, sym, _∙_, ap}
 use mathlib.Core.List.{List, _++_}
-use Prim.Native.Nat.{ℕ, _+_, _-_, _≤_}
+use Prim.Native.Nat.{ℕ, suc, _+_, _-_, _≤_, _<_}
+use native.Mathlib.Numerals.{add-one}
 use native.Mathlib.Omega.{arith}
-use lib.ListN.{length, take, drop, replicate, length-append, length-replicate, replicate-append-replicate}
-use lib.Seq.{length-take-le, take-all, drop-at, drop-drop, sets, sets-eq}
+use lib.ListN.{length, take, drop, set, replicate, length-append, length-replicate}
+use lib.Seq.{length-take-le, drop-drop, sets, sets-eq}
 use Rattle.base.specs.Places.{placed}
 use Rattle.base.proofs.Places.{sets-placed, length-placed, take-placed, drop-placed}
 use Rattle.net.specs.DryRun.{runOutput, padded}
@@ -27,15 +28,17 @@ zeros n = replicate n 0
 length-zeros : (n : ℕ) → length (zeros n) ≡ n
 length-zeros n = length-replicate n 0
 
--- a part of an array of 0
-zeros-part : (i m : ℕ) → i ≤ m → take (m - i) (drop i (zeros m)) ≡ zeros (m - i)
-zeros-part i m h =
-    let left = m - i in
-    let sum : m ≡ i + left = omega arith in
-    ap (λ (n : ℕ). take left (drop i (zeros n))) sum
-    ∙ ap (λ (l : List ℕ). take left (drop i l)) (sym (replicate-append-replicate i left 0))
-    ∙ ap (take left) (drop-at (zeros i) (zeros left) i (length-zeros i))
-    ∙ take-all left (zeros left) (omega (arith, length-zeros left))
+-- one more 0 put, and none left
+pub clear-step : (out : List ℕ) (i : ℕ) {whole : List ℕ} → i < runOutput → sets out i (zeros (runOutput - i)) ≡ whole →
+    sets (set out i 0) (i + 1) (zeros (runOutput - (i + 1))) ≡ whole
+clear-step out i h so =
+    let one : runOutput - i ≡ suc (runOutput - suc i) = omega arith in
+    rw (add-one i) (sym (ap (λ (n : ℕ). sets out i (zeros n)) one) ∙ so)
+
+pub clear-none : (out : List ℕ) (i : ℕ) {whole : List ℕ} → runOutput ≤ i → sets out i (zeros (runOutput - i)) ≡ whole → out ≡ whole
+clear-none out i h so =
+    let none : runOutput - i ≡ 0 = omega arith in
+    sym (ap (λ (n : ℕ). sets out i (zeros n)) none) ∙ so
 
 pub length-padded : (tg : List ℕ) → length tg ≤ runOutput → length (padded tg) ≡ runOutput
 unfolding padded
@@ -43,15 +46,12 @@ length-padded tg h = omega (arith, length-append tg (zeros (runOutput - length t
 
 -- 0 behind the telegram that stands in the first places
 module _ (out : List ℕ) (i : ℕ) (short : i ≤ runOutput) (room : runOutput ≤ length out) where
-  zeros-behind : sets out i (zeros (runOutput - i)) ≡ placed (padded (take i out)) out
+  pub cleared : sets out i (zeros (runOutput - i)) ≡ placed (padded (take i out)) out
   unfolding placed padded
-  zeros-behind =
+  cleared =
       let left = zeros (runOutput - i) in
       let long : length (take i out) ≡ i = length-take-le i out (omega arith) in
       sets-eq left out i (omega (arith, length-zeros (runOutput - i))) ∙ rw (long, length-append (take i out) left, long)
-
-  pub cleared : sets out i (take (runOutput - i) (drop i (zeros runOutput))) ≡ placed (padded (take i out)) out
-  cleared = ap (sets out i) (zeros-part i runOutput short) ∙ zeros-behind
 
 -- only what is behind the filled places counts of the output before
 pub padded-behind : (tg out before : List ℕ) → length tg ≤ runOutput → drop runOutput out ≡ drop runOutput before →

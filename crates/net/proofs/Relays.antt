@@ -13,12 +13,10 @@ use Rattle.mop_header.specs.declared.Function.the-variants.{Request, Reply}
 use Rattle.mop_station.specs.Station.{relayed}
 use Rattle.journey.specs.Bounded.{mostTransmissions}
 use Rattle.net.specs.DryRun.{Outcome, played, runOutput, padded}
-use Rattle.net.specs.Relays.{legAtStation, legAt, legOf, Carriage, carriage, carriedBy, carrying, endOf, Home}
+use Rattle.net.specs.Relays.{Leg, Relayed, Halted, legAtStation, legAt, legOf, Carriage, carriage, carriedBy, carrying, endOf, Home}
 use Rattle.net.specs.declared.JourneyEnd.the-variants.{AtZero, AtNobody}
 use Rattle.net.specs.declared.Halt.{Halt}
 use Rattle.net.specs.declared.Halt.the-variants.{Ended, AtDestination}
-use Rattle.net.specs.declared.Leg.{Leg}
-use Rattle.net.specs.declared.Leg.the-variants.{Relayed, Halted}
 
 -- at a station that is there
 pub to-destination : {f : Function} {n : ℕ} → f ≡ Request → n ≡ 0 → legAtStation f n ≡ Halted AtDestination
@@ -78,13 +76,16 @@ module _ (addresses : List ℕ) (gone : ℕ) (h : Head) where
   carry-relayed more e = carry-by more e
 
 -- the run ended where relays carried the telegram
-pub carried-short : {x y : Carriage} (body : List ℕ) → x ≡ y → length (telegramOf (y .head) body) ≤ runOutput →
-    length (telegramOf (x .head) body) ≤ runOutput
-carried-short body e h = subst (λ (z : Carriage). length (telegramOf (z .head) body) ≤ runOutput) (sym e) h
+pub carried-short : {x y : Carriage} {body part : List ℕ} → part ≡ body → x ≡ y → length (telegramOf (y .head) body) ≤ runOutput →
+    length (telegramOf (x .head) part) ≤ runOutput
+carried-short {x} {y} {body} same e h =
+    subst (λ (l : List ℕ). length (telegramOf (x .head) l) ≤ runOutput) (sym same)
+    (subst (λ (z : Carriage). length (telegramOf (z .head) body) ≤ runOutput) (sym e) h)
 
-pub home-at : {x y : Carriage} {halt : Halt} {o : Outcome} {body out after : List ℕ} → x ≡ y → x .halt ≡ halt →
-    o ≡ played (x .gone + 1) (endOf halt) (length (telegramOf (x .head) body)) → after ≡ placed (padded (telegramOf (x .head) body)) out →
+pub home-at : {x y : Carriage} {halt : Halt} {o : Outcome} {body part out after : List ℕ} → part ≡ body → x ≡ y → x .halt ≡ halt →
+    o ≡ played (x .gone + 1) (endOf halt) (length (telegramOf (x .head) part)) → after ≡ placed (padded (telegramOf (x .head) part)) out →
     Home y body out o after
-home-at {x = x} {o = o} {body = body} {out = out} {after = after} e told outcome output =
-    let end = ap (λ (n : Halt). played (x .gone + 1) (endOf n) (length (telegramOf (x .head) body))) told in
-    subst (λ (z : Carriage). Home z body out o after) e (record { outcome = outcome ∙ sym end; output = output })
+home-at {x} {y} {o = o} {part = part} {out = out} {after = after} same e told outcome output =
+    let end = ap (λ (n : Halt). played (x .gone + 1) (endOf n) (length (telegramOf (x .head) part))) told in
+    subst (λ (l : List ℕ). Home y l out o after) same
+    (subst (λ (z : Carriage). Home z part out o after) e (record { outcome = outcome ∙ sym end; output = output }))

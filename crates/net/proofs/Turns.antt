@@ -127,8 +127,3 @@ pub turned-relayed : (h : Head) (p : ℕ) → p < length (h .block) →
     relayed (turnedHead h p .function) (turnedHead h p) ≡ turnedHead h (nextFirst (h .function) (length (h .block)) p)
 unfolding remarked
 turned-relayed h p within = relayed-by (h .function) (h .control) (h .form) (h .block) p within
-
-pub next-within : (f : Function) (b : List ℕ) (p : ℕ) → p < length b → nextFirst f (length b) p < length b
-unfolding nextFirst
-next-within Request b p within = behind-within b p within
-next-within Reply b p within = before-within (length b) p within

@@ -10,6 +10,7 @@ use lib.Dec.{leb}
 use lib.ListN.{length, replicate}
 use Rattle.base.specs.Choice.{pick}
 use Rattle.mop_block.specs.Block.{has, first, next, rollLeft, rollRight}
+use Rattle.mop_block.proofs.Counts.{good-parts}
 use Rattle.mop_header.specs.Header.{Head, head, telegramOf, remarked}
 use Rattle.mop_header.specs.Reading.{sound, goodFor, maxTelegram, reading}
 use Rattle.mop_header.specs.ReadBack.{sized, ReadWell}
@@ -30,13 +31,11 @@ use Rattle.journey.proofs.Positions.{faultless-left, faultless-right}
 use Rattle.journey.proofs.Whole.{every-journey, plays-the-journey}
 use Rattle.journey.proofs.Unique.{unique}
 use Rattle.net.specs.Hop.{endingOf}
-use Rattle.net.specs.Relays.{Turnable, legAtStation, legAt, Carriage, carriedBy, carrying, endOf}
+use Rattle.net.specs.Relays.{Leg, Halted, Turnable, legAtStation, legAt, Carriage, carriedBy, carrying, endOf}
 use Rattle.net.specs.declared.JourneyEnd.{JourneyEnd}
 use Rattle.net.specs.declared.JourneyEnd.the-variants.{AtZero, AtNobody}
 use Rattle.net.specs.declared.Halt.{Halt}
 use Rattle.net.specs.declared.Halt.the-variants.{Ended, AtDestination}
-use Rattle.net.specs.declared.Leg.{Leg}
-use Rattle.net.specs.declared.Leg.the-variants.{Halted}
 use Rattle.net.proofs.Courses.{Summary, summaryOf, journey-some, summary-onward, summary-last}
 
 -- so many transmissions were made, and the faultless telegram with this block is the next one
@@ -57,6 +56,7 @@ unfolding remarked
 way-turns {f = f} {c = c} {form = form} {b = b} way = record {
   marked = agrees-remarked (remarked (head f c form b)) (remarked-agrees (head f c form b));
   two = sized-least form (length b) (way .faultless .size);
+  has-zero = good-parts b (way .faultless .good) .zero-in;
 }
 
 -- a request at its destination

@@ -6,11 +6,11 @@ use mathlib.Core.Path.{_≡_}
 use mathlib.Core.Bool.{Bool, true}
 use mathlib.Core.List.{List, [], _∷_}
 use lib.Dec.{ltb}
-use lib.ListN.{length, set}
+use lib.ListN.{length, set, replicate}
 use Rattle.base.specs.Choice.{pick}
 use Rattle.base.specs.Places.{placed}
 use Rattle.mop_block.specs.Block.{has, first, next, rolled}
-use Rattle.mop_header.specs.Header.{Head, head, headOf, telegramOf, remarked}
+use Rattle.mop_header.specs.Header.{Head, head, headOf, telegramOf, bodyOf, remarked}
 use Rattle.mop_header.specs.Reading.{sound, reading}
 use Rattle.mop_header.specs.declared.Reader.the-variants.{Station}
 use Rattle.mop_header.specs.declared.Function.{Function}
@@ -22,13 +22,17 @@ use Rattle.journey.specs.Terms.{lastTelegram}
 use Rattle.journey.specs.Bounded.{playing, mostTransmissions}
 use Rattle.net.specs.Tables.{netOf, tablesOf, setUp}
 use Rattle.net.specs.Hop.{endingOf}
-use Rattle.net.specs.DryRun.{Outcome, played, DryRun, leaves, padded}
+use Rattle.net.specs.DryRun.{Outcome, played, DryRun, leaves, runOutput, padded}
 use Rattle.net.specs.declared.JourneyEnd.the-variants.{AtZero, AtNobody}
 use Rattle.net.specs.declared.Halt.{Halt}
 use Rattle.net.specs.declared.Halt.the-variants.{Ended, AtDestination}
-use Rattle.net.specs.declared.Leg.{Leg}
-use Rattle.net.specs.declared.Leg.the-variants.{Relayed, Halted}
+use Rattle.net.specs.declared.Stop.{Stop}
 use Rattle.net.specs.declared.Carried.{Carried}
+
+-- what the station that is named first makes of a telegram: it is relayed, or goes no further by relays
+pub data Leg : Type 0 where
+  Relayed : Leg
+  Halted : Halt → Leg
 
 -- a station that is there, by the entry behind its own: the destination of a request, or a relay
 unfoldable pub legAtStation : Function → ℕ → Leg
@@ -70,10 +74,18 @@ nextFirst Reply n p = placeBefore n p
 abbrev pub turnedHead : Head → ℕ → Head
 turnedHead h p = remarked (head (h .function) (h .control) (h .form) (rolled p (h .block)))
 
--- a header that has its mark, and two entries at least
+-- a header that has its mark, two entries at least, and a 00
 pub record Turnable (h : Head) : Type 0 where
   pub marked : remarked h ≡ h
   pub two : 2 ≤ length (h .block)
+  pub has-zero : has 0 (h .block) ≡ true
+
+-- what relays are followed with: the block apart, not too many transmissions before, and a table of the addresses
+pub record Ready (h : Head) (block : List ℕ) (before : ℕ) (table addresses : List ℕ) : Type 0 where
+  pub turns : Turnable h
+  pub ring : block ≡ h .block
+  pub most : before ≤ mostTransmissions
+  pub known : table ≡ flagging (replicate bytes 0) addresses
 
 -- the header as far as relays carried it, the transmissions made before, and what comes then
 pub record Carriage : Type 0 where
@@ -87,6 +99,9 @@ carriage h gone x = record { head = h; gone = gone; halt = x }
 abbrev pub carriageOf : Carried → Carriage
 carriageOf r = carriage (headOf (r .header)) (r .gone) (r .halt)
 
+abbrev pub carriageAt : Head → Stop → Carriage
+carriageAt h r = carriage (turnedHead h (r .at)) (r .gone) (r .halt)
+
 -- over at most so many relays; where no more is looked at the journey is given as ended
 abbrev pub carriedBy : (ℕ → Head → Carriage) → ℕ → Head → Leg → Carriage
 carriedBy rest gone h Relayed = rest (gone + 1) (relayed (h .function) h)
@@ -95,6 +110,20 @@ carriedBy rest gone h (Halted x) = carriage h gone x
 unfoldable pub carrying : ℕ → List ℕ → ℕ → Head → Carriage
 carrying zero addresses gone h = carriage h gone (Ended AtZero)
 carrying (suc k) addresses gone h = carriedBy (carrying k addresses) gone h (legOf h addresses)
+
+-- where relays bring every telegram with this block
+abbrev pub Leads : Function → List ℕ → ℕ → List ℕ → Stop → Type 0
+Leads f block before addresses r =
+    (h : Head) → h .function ≡ f → h .block ≡ block → Turnable h →
+    carriageAt h r ≡ carrying (mostTransmissions - before) addresses before h
+
+-- a reply on its way home
+pub record Homeward (h : Head) (tg : List ℕ) (before : ℕ) (table addresses : List ℕ) : Type 0 where
+  pub turns : Turnable h
+  pub whole : telegramOf h (bodyOf h tg) ≡ tg
+  pub most : before ≤ mostTransmissions
+  pub known : table ≡ flagging (replicate bytes 0) addresses
+  pub short : length (telegramOf (carrying (mostTransmissions - before) addresses before h .head) (bodyOf h tg)) ≤ runOutput
 
 -- how a journey that halts ended; a reply never comes to a destination
 abbrev pub endOf : Halt → Ending

@@ -14,16 +14,18 @@ ghost use Prim.Native.Nat.{_-_, _≤_, _<_};
 ghost use lib.Dec.{eqb};
 ghost use lib.ListN.{length, take, getD, replicate};
 ghost use Rattle.base.specs.Places.{placed};
-ghost use Rattle.mop_header.specs.Header.{headOf, telegramOf};
+ghost use Rattle.mop_block.specs.Block.{has};
+ghost use Rattle.mop_header.specs.Header.{headOf, telegramOf, bodyOf};
 ghost use Rattle.mop_header.specs.Reading.{sound, reading};
 ghost use Rattle.mop_header.specs.declared.Reader.the-variants.{Station};
+ghost use Rattle.mop_header.specs.declared.Function.the-variants.{Request, Reply};
 ghost use Rattle.mop_station.specs.Station.{handledOf};
 ghost use Rattle.journey.specs.Journey.{named};
 ghost use Rattle.journey.specs.Bounded.{playing, mostTransmissions};
 ghost use Rattle.net.specs.Tables.{netOf, tablesFit, setUp};
 ghost use Rattle.net.specs.Place.{placeIn};
 ghost use Rattle.net.specs.Hop.{endingOf, hopOf, hoppedOf, hoppedBy, meeting, hopping};
-ghost use Rattle.net.specs.Relays.{legAtStation, legAt, placeBehind, placeBefore, flagging, bytes, nextFirst, turnedHead, Turnable, carriageOf, carrying, Arrival, Home, continuing};
+ghost use Rattle.net.specs.Relays.{placeBefore, flagging, bytes, turnedHead, carriageOf, carrying, Leads, Ready, Homeward, Arrival, Home, continuing};
 ghost use Rattle.net.specs.DryRun.{played, outcomeOf, dryRunOf, runOutput, padded, ofCourse, dryRun};
 
 // The most stations of a dry run.
@@ -154,8 +156,11 @@ fn clear_from(from: usize, out: &mut [u8])
     requires { ⌜ runOutput ≤ length (now out) ⌝ }
     ensures { λ r. ⌜ now (out .exit) ≡ placed (padded (take from (now (out .entry)))) (now (out .entry)) ⌝ }
 {
-    let zeros = [0u8; RUN_OUTPUT];
-    places::put(&zeros[from..RUN_OUTPUT], &mut *out, from)
+    let mut i = from;
+    while i < RUN_OUTPUT {
+        out[i] = 0;
+        i += 1;
+    }
 }
 
 // What comes after a telegram's relays: the end of its journey, or a request's destination.
@@ -164,10 +169,11 @@ enum Halt {
     AtDestination,
 }
 
-// What the station that is named first makes of a telegram: it is relayed, or goes no further by relays.
-enum Leg {
-    Relayed,
-    Halted(Halt),
+// Where relays bring a telegram: the place of its block that is first then, the count of transmissions before, and what comes.
+struct Stop {
+    at: usize,
+    gone: usize,
+    halt: Halt,
 }
 
 // A header as far as relays carried it, the count of transmissions before, and what comes then.
@@ -175,34 +181,6 @@ struct Carried {
     header: Header,
     gone: usize,
     halt: Halt,
-}
-
-// A station that is there: the destination of a request if the next entry is 00, and else a relay.
-fn leg_at_station(function: Function, next: u8) -> Leg
-    ensures { λ r. ⌜ r ≡ legAtStation function next ⌝ }
-{
-    match function {
-        Function::Request => {
-            if next == 0 {
-                return Leg::Halted(Halt::AtDestination);
-            }
-            Leg::Relayed
-        }
-        Function::Reply => Leg::Relayed,
-    }
-}
-
-// What becomes of a telegram at the station that its first entry names, if it is there.
-fn leg_at(function: Function, first: u8, next: u8, there: bool) -> Leg
-    ensures { λ r. ⌜ r ≡ legAt function first next there ⌝ }
-{
-    if first == 0 {
-        return Leg::Halted(Halt::Ended(JourneyEnd::AtZero));
-    }
-    if !there {
-        return Leg::Halted(Halt::Ended(JourneyEnd::AtNobody));
-    }
-    leg_at_station(function, next)
 }
 
 // A table of all bytes, with 1 at those that the list has.
@@ -227,17 +205,6 @@ fn has_byte(table: &[u8; BYTES], a: u8) -> bool
     table[at] != 0
 }
 
-// The place behind another, in a ring of n.
-fn place_behind(n: usize, at: usize) -> usize
-    requires { ⌜ at < n ⌝ }
-    ensures { λ r. ⌜ r ≡ placeBehind n at ⌝ }
-{
-    if at + 1 < n {
-        return at + 1;
-    }
-    0
-}
-
 // The place before another, in a ring of n.
 fn place_before(n: usize, at: usize) -> usize
     requires { ⌜ at < n ⌝ }
@@ -249,17 +216,6 @@ fn place_before(n: usize, at: usize) -> usize
     at - 1
 }
 
-// The place that is first after a relay: requests are rolled left, replies right.
-fn next_first(function: Function, n: usize, at: usize) -> usize
-    requires { ⌜ at < n ⌝ }
-    ensures { λ r. ⌜ r ≡ nextFirst function n at ⌝ }
-{
-    match function {
-        Function::Request => place_behind(n, at),
-        Function::Reply => place_before(n, at),
-    }
-}
-
 // A header with the entry at a place rolled to the front, and the mark set by it.
 fn turned(header: Header, at: usize) -> Header
     ensures { λ r. ⌜ headOf r ≡ turnedHead (headOf header) at ⌝ }
@@ -268,39 +224,118 @@ fn turned(header: Header, at: usize) -> Header
     rolled.remarked()
 }
 
-// Carries a telegram over its relays. They only roll the block, so the header is turned once, at the end. The loop never uses
-// up its turns, since no journey has more transmissions; so the answer behind it is never given.
-fn carry(first: Header, before: usize, addresses: &[u8]) -> Carried
+// Where relays bring a request: the block stays, and what moves is the place that is first. There is a 00 ahead, so the place
+// behind is never past the block. The loop never uses up its turns, since no journey has more transmissions; so the answer
+// behind it is never given.
+fn way_out(block: &[u8], before: usize, table: &[u8; BYTES], addresses: &[u8]) -> Stop
     requires { ⌜ before ≤ mostTransmissions ⌝ }
-    requires { ⌜ Turnable (headOf first) ⌝ }
+    requires { ⌜ has 0 (now block) ≡ true ⌝ }
+    requires { ⌜ now table ≡ flagging (replicate bytes 0) (now addresses) ⌝ }
+    ensures { λ r. ⌜ Leads Request (now (block .entry)) before (now (addresses .entry)) r ⌝ }
+    ensures { λ r. ⌜ r .gone ≤ mostTransmissions ⌝ }
+{
+    let mut at: usize = 0;
+    let mut gone = before;
+    while gone < MOST_TRANSMISSIONS {
+        let first = block[at];
+        if first == 0 {
+            return Stop {
+                at,
+                gone,
+                halt: Halt::Ended(JourneyEnd::AtZero),
+            };
+        }
+        if !has_byte(table, first) {
+            return Stop {
+                at,
+                gone,
+                halt: Halt::Ended(JourneyEnd::AtNobody),
+            };
+        }
+        if block[at + 1] == 0 {
+            return Stop {
+                at,
+                gone,
+                halt: Halt::AtDestination,
+            };
+        }
+        at += 1;
+        gone += 1;
+    }
+    Stop {
+        at,
+        gone,
+        halt: Halt::Ended(JourneyEnd::AtZero),
+    }
+}
+
+// Where relays bring a reply: the same, the other way round the ring.
+fn way_home(block: &[u8], before: usize, table: &[u8; BYTES], addresses: &[u8]) -> Stop
+    requires { ⌜ before ≤ mostTransmissions ⌝ }
+    requires { ⌜ has 0 (now block) ≡ true ⌝ }
+    requires { ⌜ now table ≡ flagging (replicate bytes 0) (now addresses) ⌝ }
+    ensures { λ r. ⌜ Leads Reply (now (block .entry)) before (now (addresses .entry)) r ⌝ }
+    ensures { λ r. ⌜ r .gone ≤ mostTransmissions ⌝ }
+{
+    let n = block.len();
+    let mut at: usize = 0;
+    let mut gone = before;
+    while gone < MOST_TRANSMISSIONS {
+        let named = block[at];
+        if named == 0 {
+            let halt = Halt::Ended(JourneyEnd::AtZero);
+            return Stop { at, gone, halt };
+        }
+        if !has_byte(table, named) {
+            let halt = Halt::Ended(JourneyEnd::AtNobody);
+            return Stop { at, gone, halt };
+        }
+        at = place_before(n, at);
+        gone += 1;
+    }
+    let halt = Halt::Ended(JourneyEnd::AtZero);
+    Stop { at, gone, halt }
+}
+
+// Where relays bring a telegram.
+fn way(
+    function: Function,
+    block: &[u8],
+    before: usize,
+    table: &[u8; BYTES],
+    addresses: &[u8],
+) -> Stop
+    requires { ⌜ before ≤ mostTransmissions ⌝ }
+    requires { ⌜ has 0 (now block) ≡ true ⌝ }
+    requires { ⌜ now table ≡ flagging (replicate bytes 0) (now addresses) ⌝ }
+    ensures { λ r. ⌜ Leads function (now (block .entry)) before (now (addresses .entry)) r ⌝ }
+    ensures { λ r. ⌜ r .gone ≤ mostTransmissions ⌝ }
+{
+    match function {
+        Function::Request => way_out(block, before, table, addresses),
+        Function::Reply => way_home(block, before, table, addresses),
+    }
+}
+
+// Carries a telegram over its relays. They only roll the block, so the header is turned once, at the end.
+fn carry(
+    first: Header,
+    block: &[u8],
+    before: usize,
+    table: &[u8; BYTES],
+    addresses: &[u8],
+) -> Carried
+    requires { ⌜ Ready (headOf first) (now block) before (now table) (now addresses) ⌝ }
     ensures { λ r. ⌜ carriageOf r ≡ carrying (mostTransmissions - before) (now (addresses .entry)) before (headOf first) ⌝ }
     ensures { λ r. ⌜ r .gone ≤ mostTransmissions ⌝ }
 {
     let function = first.function;
-    let n = first.entry_count();
-    let table = table_of(addresses);
-    let mut at: usize = 0;
-    let mut gone = before;
-    while gone < MOST_TRANSMISSIONS {
-        let entry = first.entry(at);
-        let next = first.entry(place_behind(n, at));
-        match leg_at(function, entry, next, has_byte(&table, entry)) {
-            Leg::Halted(halt) => {
-                let header = turned(first, at);
-                return Carried { header, gone, halt };
-            }
-            Leg::Relayed => {
-                at = next_first(function, n, at);
-                gone += 1;
-            }
-        }
-    }
+    let stop = way(function, block, before, table, addresses);
+    let at = stop.at;
+    let gone = stop.gone;
+    let halt = stop.halt;
     let header = turned(first, at);
-    Carried {
-        header,
-        gone,
-        halt: Halt::Ended(JourneyEnd::AtZero),
-    }
+    Carried { header, gone, halt }
 }
 
 // Ends a run: the last telegram in the first places of out, and 0 behind it.
@@ -325,24 +360,28 @@ fn end_run(
 // The way home of a reply. It never comes to a destination.
 fn go_home(
     header: Header,
-    body: &[u8],
+    telegram: &[u8],
     before: usize,
+    table: &[u8; BYTES],
     addresses: &[u8],
     out: &mut [u8],
 ) -> DryRunAnswer
-    requires { ⌜ before ≤ mostTransmissions ⌝ }
-    requires { ⌜ Turnable (headOf header) ⌝ }
-    requires { ⌜ length (telegramOf (carrying (mostTransmissions - before) (now addresses) before (headOf header) .head) (now body)) ≤ runOutput ⌝ }
+    requires { ⌜ Homeward (headOf header) (now telegram) before (now table) (now addresses) ⌝ }
     requires { ⌜ runOutput ≤ length (now out) ⌝ }
-    ensures { λ r. ⌜ Home (carrying (mostTransmissions - before) (now (addresses .entry)) before (headOf header)) (now (body .entry)) (now (out .entry)) (outcomeOf r) (now (out .exit)) ⌝ }
+    ensures { λ r. ⌜ Home (carrying (mostTransmissions - before) (now (addresses .entry)) before (headOf header)) (bodyOf (headOf header) (now (telegram .entry))) (now (out .entry)) (outcomeOf r) (now (out .exit)) ⌝ }
 {
-    let carried = carry(header, before, addresses);
+    let at = header.length();
+    let start = at - header.entry_count();
+    let carried = carry(header, &telegram[start..at], before, table, addresses);
     let last = carried.header;
     let count = carried.gone + 1;
     let halt = carried.halt;
+    let n = telegram.len();
     match halt {
-        Halt::Ended(e) => end_run(last, body, count, e, &mut *out),
-        Halt::AtDestination => end_run(last, body, count, JourneyEnd::AtZero, &mut *out),
+        Halt::Ended(e) => end_run(last, &telegram[at..n], count, e, &mut *out),
+        Halt::AtDestination => {
+            end_run(last, &telegram[at..n], count, JourneyEnd::AtZero, &mut *out)
+        }
     }
 }
 
@@ -351,11 +390,13 @@ fn arrive(
     header: Header,
     body: &[u8],
     gone: usize,
+    table: &[u8; BYTES],
     addresses: &[u8],
     tables: &mut [u16],
     out: &mut [u8],
 ) -> DryRunAnswer
     requires { ⌜ Arrival (headOf header) (now body) gone (now addresses) (now tables) ⌝ }
+    requires { ⌜ now table ≡ flagging (replicate bytes 0) (now addresses) ⌝ }
     requires { ⌜ runOutput ≤ length (now out) ⌝ }
     ensures { λ r. ⌜ dryRunOf r (now (tables .exit)) (now (out .exit)) ≡ continuing gone (playing mostTransmissions (netOf (now (addresses .entry)) (now (tables .entry))) (telegramOf (headOf header) (now (body .entry)))) (now (out .entry)) ⌝ }
 {
@@ -366,8 +407,7 @@ fn arrive(
     match mop_station::answer_request(header, body, &mut tables[start..end], &mut sent) {
         StationAnswer::Sent(n) => {
             let reply = mop_station::reply_header(header);
-            let at = reply.length();
-            go_home(reply, &sent[at..n], gone + 1, addresses, &mut *out)
+            go_home(reply, &sent[0..n], gone + 1, table, addresses, &mut *out)
         }
         StationAnswer::NotMine => {
             end_run(header, body, gone + 1, JourneyEnd::AtNobody, &mut *out)
@@ -391,11 +431,13 @@ fn play(
     requires { ⌜ runOutput ≤ length (now out) ⌝ }
     ensures { λ r. ⌜ dryRunOf r (now (tables .exit)) (now (out .exit)) ≡ ofCourse (playing mostTransmissions (netOf (now (addresses .entry)) (now (tables .entry))) (now (telegram .entry))) (now (out .entry)) ⌝ }
 {
-    let carried = carry(header, 0, addresses);
+    let table = table_of(addresses);
+    let at = header.length();
+    let start = at - header.entry_count();
+    let carried = carry(header, &telegram[start..at], 0, &table, addresses);
     let last = carried.header;
     let gone = carried.gone;
     let halt = carried.halt;
-    let at = header.length();
     let n = telegram.len();
     match halt {
         Halt::Ended(e) => end_run(last, &telegram[at..n], gone + 1, e, &mut *out),
@@ -404,6 +446,7 @@ fn play(
                 last,
                 &telegram[at..n],
                 gone,
+                &table,
                 addresses,
                 &mut *tables,
                 &mut *out,

@@ -10,7 +10,7 @@ use Rattle.mop_header.specs.Header.{headOf}
 use Rattle.mop_station.specs.Station.{handledOf}
 use Rattle.net.specs.Place.{placeIn}
 use Rattle.net.proofs.Tables.{set-up-fit, fit-size}
-use Rattle.net.proofs.Arrivals.{arrival-short, place-there, never-not-mine, arrival-refused, one-more, part-bounds, reply-turns, sent-short, arrival-sent}
+use Rattle.net.proofs.Arrivals.{arrival-short, place-there, never-not-mine, arrival-refused, sent-bound, homeward, arrival-sent}
 use Rattle.net.proofs.arrive.Statement.{statement}
 use Rattle.net.proofs.arrive.Tie as tie
 
@@ -86,58 +86,16 @@ enum-known-n c = search needs
 reply-header-requires : tie.Need-reply-header-requires
 reply-header-requires c κs = search needs
 
-length-requires : tie.Need-length-requires
-length-requires c κs = search needs
-
 sub-go-home : tie.Need-sub-go-home
-unfolding tableLength
-sub-go-home c =
-    let l = c in
-    let r = l .before in
-    let n = r .before .before in
-    let a = n .before .before .before .before .before in
-    let p = a .before .before .before in
-    let f = p .before in
-    let s = f .before .before .before .before .before in
-    let addresses = s .args .addresses .now in
-    let tables = s .args .tables .now in
-    let at = s .pre .0 in
-    let ei = p .place-in .ensures ∙ ap (λ (y : ℕ). placeIn y addresses) (f .first .ensures ∙ at .mine) in
-    let en = add-sub-cancel-left (tableLength * p .place-in .result) tableLength in
-    let h = headOf (s .args .header) in
-    let body = s .args .body .now in
-    let gone = s .args .gone in
-    let told = ap handledOf (n .n .given .1) in
-    let bounds = part-bounds h body gone addresses tables at ei en (a .answer-request .ensures) told (r .reply-header .ensures) (l .length .ensures .0) in
-    omega arith
+sub-go-home c = search needs
 
 part-go-home-start : tie.Need-part-go-home-start
-unfolding tableLength
-part-go-home-start c =
-    let l = c .before in
-    let r = l .before in
-    let n = r .before .before in
-    let a = n .before .before .before .before .before in
-    let p = a .before .before .before in
-    let f = p .before in
-    let s = f .before .before .before .before .before in
-    let addresses = s .args .addresses .now in
-    let tables = s .args .tables .now in
-    let at = s .pre .0 in
-    let ei = p .place-in .ensures ∙ ap (λ (y : ℕ). placeIn y addresses) (f .first .ensures ∙ at .mine) in
-    let en = add-sub-cancel-left (tableLength * p .place-in .result) tableLength in
-    let h = headOf (s .args .header) in
-    let body = s .args .body .now in
-    let gone = s .args .gone in
-    let told = ap handledOf (n .n .given .1) in
-    let bounds = part-bounds h body gone addresses tables at ei en (a .answer-request .ensures) told (r .reply-header .ensures) (l .length .ensures .0) in
-    omega arith
+part-go-home-start c = search needs
 
 part-go-home-end : tie.Need-part-go-home-end
 unfolding tableLength
 part-go-home-end c =
-    let l = c .before in
-    let r = l .before in
+    let r = c .before in
     let n = r .before .before in
     let a = n .before .before .before .before .before in
     let p = a .before .before .before in
@@ -152,8 +110,7 @@ part-go-home-end c =
     let body = s .args .body .now in
     let gone = s .args .gone in
     let told = ap handledOf (n .n .given .1) in
-    let bounds = part-bounds h body gone addresses tables at ei en (a .answer-request .ensures) told (r .reply-header .ensures) (l .length .ensures .0) in
-    omega arith
+    omega (arith, sent-bound h body gone addresses tables at ei en (a .answer-request .ensures) told)
 
 add-go-home : tie.Need-add-go-home
 add-go-home c = search needs
@@ -161,8 +118,7 @@ add-go-home c = search needs
 go-home-requires : tie.Need-go-home-requires
 unfolding tableLength
 go-home-requires c κs =
-    let l = c .before .before .before in
-    let r = l .before in
+    let r = c .before .before .before in
     let n = r .before .before in
     let a = n .before .before .before .before .before in
     let p = a .before .before .before in
@@ -177,7 +133,7 @@ go-home-requires c κs =
     let body = s .args .body .now in
     let gone = s .args .gone in
     let told = ap handledOf (n .n .given .1) in
-    (one-more h body gone addresses tables at ei en (a .answer-request .ensures) told, (reply-turns h body gone addresses tables at ei en (a .answer-request .ensures) told (r .reply-header .ensures) (l .length .ensures .0), (sent-short h body gone addresses tables at ei en (a .answer-request .ensures) told (r .reply-header .ensures) (l .length .ensures .0), s .pre .1)))
+    (homeward h body gone addresses tables at ei en (a .answer-request .ensures) told (r .reply-header .ensures) (s .pre .1 .0), s .pre .1 .1)
 
 enum-told : tie.Need-enum-told
 enum-told c = search needs
@@ -190,7 +146,7 @@ end-run-requires c κs =
     let a = c .before .before .before .before .before .before in
     let p = a .before .before .before in
     let s = p .before .before .before .before .before .before in
-    (arrival-short (headOf (s .args .header)) (s .args .body .now) (s .args .gone) (s .args .addresses .now) (s .args .tables .now) (s .pre .0), s .pre .1)
+    (arrival-short (headOf (s .args .header)) (s .args .body .now) (s .args .gone) (s .args .addresses .now) (s .args .tables .now) (s .pre .0), s .pre .1 .1)
 
 enum-known-r : tie.Need-enum-known-r
 enum-known-r c = search needs
@@ -203,7 +159,7 @@ end-run-requires-2 c κs =
     let a = c .before .before .before .before .before .before .before in
     let p = a .before .before .before in
     let s = p .before .before .before .before .before .before in
-    (arrival-short (headOf (s .args .header)) (s .args .body .now) (s .args .gone) (s .args .addresses .now) (s .args .tables .now) (s .pre .0), s .pre .1)
+    (arrival-short (headOf (s .args .header)) (s .args .body .now) (s .args .gone) (s .args .addresses .now) (s .args .tables .now) (s .pre .0), s .pre .1 .1)
 
 same-length : tie.Need-same-length
 same-length c = search needs
@@ -215,8 +171,7 @@ returns : tie.Need-returns
 unfolding tableLength
 returns c =
     let g = c .before .before in
-    let l = g .before .before .before .before in
-    let r = l .before in
+    let r = g .before .before .before .before in
     let n = r .before .before in
     let a = n .before .before .before .before .before in
     let p = a .before .before .before in
@@ -231,7 +186,7 @@ returns c =
     let body = s .args .body .now in
     let gone = s .args .gone in
     let told = ap handledOf (n .n .given .1) in
-    arrival-sent h body gone addresses tables at ei en (a .answer-request .ensures) told (r .reply-header .ensures) (l .length .ensures .0) (g .go-home .ensures)
+    arrival-sent h body gone addresses tables at ei en (a .answer-request .ensures) told (r .reply-header .ensures) (g .go-home .ensures)
 
 same-length-3 : tie.Need-same-length-3
 same-length-3 c = search needs
@@ -299,7 +254,6 @@ arrive-spec =
     answer-request-requires
     enum-known-n
     reply-header-requires
-    length-requires
     sub-go-home
     part-go-home-start
     part-go-home-end
