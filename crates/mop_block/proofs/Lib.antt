@@ -6,3 +6,4 @@ pub mod Zipper
 pub mod Seen
 pub mod Scan
 pub mod Pass
+pub mod Four

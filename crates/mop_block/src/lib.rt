@@ -1,11 +1,11 @@
 // The block of a telegram: entries in a ring, 00s and the addresses of stations, and the rule for them.
 ghost use mathlib.Core.Path.{_≡_};
 ghost use mathlib.Core.List.{[], _∷_};
-ghost use mathlib.Core.Bool.{true, false, not, _&&_};
+ghost use mathlib.Core.Bool.{true, false, not, _&&_, _||_};
 ghost use Prim.Native.Nat.{_≤_};
-ghost use lib.Dec.{ltb};
+ghost use lib.Dec.{eqb, ltb};
 ghost use lib.ListN.{length, getD, set};
-ghost use Rattle.mop_block.specs.Block.{isAddress, distinctAddresses, stations, zeroEnds, goodBlock};
+ghost use Rattle.mop_block.specs.Block.{isAddress, has, distinctAddresses, stations, zeroEnds, goodBlock};
 
 // Whether a number is an address: 01 to F0.
 pub fn is_address(a: u8) -> bool
@@ -107,4 +107,62 @@ pub fn good_block(b: &[u8]) -> bool
         return false;
     }
     ends <= 1
+}
+
+// Whether one of four entries is 00.
+fn has_zero(a: u8, b: u8, c: u8, d: u8) -> bool
+    ensures { λ r. ⌜ r ≡ has 0 (a ∷ b ∷ c ∷ d ∷ []) ⌝ }
+{
+    if a == 0 {
+        return true;
+    }
+    if b == 0 {
+        return true;
+    }
+    if c == 0 {
+        return true;
+    }
+    d == 0
+}
+
+// Whether an entry is 00, or an address that is none of three others.
+fn is_new(a: u8, x: u8, y: u8, z: u8) -> bool
+    ensures { λ r. ⌜ r ≡ eqb a 0 || (not (has a (x ∷ y ∷ z ∷ [])) && isAddress a) ⌝ }
+{
+    if a == 0 {
+        return true;
+    }
+    if a == x {
+        return false;
+    }
+    if a == y {
+        return false;
+    }
+    if a == z {
+        return false;
+    }
+    is_address(a)
+}
+
+// The block rule for a block of four entries.
+pub fn good_four(a: u8, b: u8, c: u8, d: u8) -> bool
+    ensures { λ r. ⌜ r ≡ goodBlock (a ∷ b ∷ c ∷ d ∷ []) ⌝ }
+{
+    if !has_zero(a, b, c, d) {
+        return false;
+    }
+    let ends = zero_end(a, b) + zero_end(b, c) + zero_end(c, d) + zero_end(d, a);
+    if 1 < ends {
+        return false;
+    }
+    if !is_new(a, b, c, d) {
+        return false;
+    }
+    if !is_new(b, c, d, 0) {
+        return false;
+    }
+    if !is_new(c, d, 0, 0) {
+        return false;
+    }
+    is_new(d, 0, 0, 0)
 }

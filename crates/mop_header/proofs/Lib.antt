@@ -6,3 +6,4 @@ pub mod Readers
 pub mod Writing
 pub mod Steps
 pub mod ReadBack
+pub mod Short

@@ -2,6 +2,7 @@
 use refusal::Refusal;
 use refusal::WriteAnswer;
 ghost use mathlib.Core.Path.{_≡_};
+ghost use mathlib.Core.Bool.{true};
 ghost use Prim.Native.Nat.{_+_, _≤_, _<_};
 ghost use mathlib.Core.List.{_∷_};
 ghost use lib.ListN.{length, getD, take};
@@ -15,7 +16,9 @@ ghost use Rattle.mop_block.specs.Block.{rolled, first, next};
 ghost use Rattle.mop_header.specs.declared.Function.the-variants.{Request, Reply};
 ghost use Rattle.mop_header.specs.declared.Form.the-variants.{Standard, Extended};
 ghost use Rattle.mop_header.specs.Header.{head, maxEntries, headOf, functionByte, headerBytes, headerLength, telegramOf, isMark, markByte, markIs, withMark, remarked, rolledLeft, rolledRight, asReply};
-ghost use Rattle.mop_header.specs.Reading.{readingOf, faulty, allowed, goodFor, judged, reading};
+ghost use Rattle.mop_header.specs.Short.{shortOf};
+ghost use Rattle.mop_header.specs.declared.Reader.the-variants.{Station};
+ghost use Rattle.mop_header.specs.Reading.{readingOf, sound, faulty, allowed, goodFor, judged, reading};
 
 // The mark's bytes, but for the first one that may be 00.
 pub const MARK: u8 = 0xEF;
@@ -501,4 +504,134 @@ pub fn read(reader: Reader, telegram: &[u8]) -> HeaderRead
     }
     let form = form_of(extended, telegram[2]);
     judge(reader, function, telegram[1], form, &telegram[start..end])
+}
+
+// A standard header with its four entries one by one: what most telegrams have, and quicker to pass on than a row of 32.
+pub struct ShortHeader {
+    pub function: Function,
+    control: u8,
+    pub first: u8,
+    pub second: u8,
+    third: u8,
+    fourth: u8,
+}
+
+impl ShortHeader {
+    // A new reply, with the block of the request.
+    pub fn as_reply(self) -> Self
+        ensures { λ r. ⌜ shortOf r ≡ asReply (shortOf self) ⌝ }
+    {
+        let function = Function::Reply;
+        ShortHeader {
+            function,
+            control: NEW_CONTROL,
+            first: self.first,
+            second: self.second,
+            third: self.third,
+            fourth: self.fourth,
+        }
+    }
+
+    // The block rolled one place to the left.
+    pub fn rolled_left(self) -> Self
+        ensures { λ r. ⌜ shortOf r ≡ rolledLeft (shortOf self) ⌝ }
+    {
+        let function = self.function;
+        ShortHeader {
+            function,
+            control: self.control,
+            first: self.second,
+            second: self.third,
+            third: self.fourth,
+            fourth: self.first,
+        }
+    }
+
+    // The block rolled one place to the right.
+    pub fn rolled_right(self) -> Self
+        ensures { λ r. ⌜ shortOf r ≡ rolledRight (shortOf self) ⌝ }
+    {
+        let function = self.function;
+        ShortHeader {
+            function,
+            control: self.control,
+            first: self.fourth,
+            second: self.first,
+            third: self.second,
+            fourth: self.third,
+        }
+    }
+}
+
+// As `write`, for a short header.
+pub fn write_short(header: ShortHeader, body: &[u8], out: &mut [u8]) -> WriteAnswer
+    ensures { λ r. ⌜ fillingOf r (now (out .exit)) ≡ fitted (telegramOf (shortOf header) (now (body .entry))) (now (out .entry)) ⌝ }
+{
+    if out.len() < 6 {
+        return WriteAnswer::Refused(Refusal::OutputShort);
+    }
+    if out.len() - 6 < body.len() {
+        return WriteAnswer::Refused(Refusal::OutputShort);
+    }
+    let function = header.function;
+    out[0] = function_byte(function);
+    out[1] = header.control;
+    out[2] = header.first;
+    out[3] = header.second;
+    out[4] = header.third;
+    out[5] = header.fourth;
+    places::put(body, &mut *out, 6);
+    WriteAnswer::Written(6 + body.len())
+}
+
+// What reading a short header gives. Where it is not fine, the telegram is for `read`.
+pub struct ShortRead {
+    pub fine: bool,
+    pub header: ShortHeader,
+}
+
+// The header of a telegram at a station, where it is a standard one without a fault. Whether it is called fine is left free:
+// what holds is that a header which is called so is the one that `read` gives, without a fault.
+pub fn read_short(telegram: &[u8]) -> ShortRead
+    ensures { λ r. ⌜ (r .fine ≡ true → reading Station (now (telegram .entry)) ≡ sound (shortOf (r .header))) ⌝ }
+{
+    let other = ShortHeader {
+        function: Function::Request,
+        control: 0,
+        first: 0,
+        second: 0,
+        third: 0,
+        fourth: 0,
+    };
+    let n = telegram.len();
+    if n < 6 {
+        return ShortRead {
+            fine: false,
+            header: other,
+        };
+    }
+    let byte = telegram[0];
+    let function = function_of(byte);
+    let header = ShortHeader {
+        function,
+        control: telegram[1],
+        first: telegram[2],
+        second: telegram[3],
+        third: telegram[4],
+        fourth: telegram[5],
+    };
+    if MAX_TELEGRAM < n {
+        return ShortRead {
+            fine: false,
+            header: other,
+        };
+    }
+    if !is_allowed(Reader::Station, byte) {
+        return ShortRead {
+            fine: false,
+            header: other,
+        };
+    }
+    let fine = mop_block::good_four(header.first, header.second, header.third, header.fourth);
+    ShortRead { fine, header }
 }

@@ -5,7 +5,7 @@ use mathlib.Core.Bool.{true, false, and-false}
 use mathlib.Core.List.{List}
 use Prim.Native.Nat.{ℕ, zero, suc}
 use borrow.Author.Tests.{eq-eqb, ne-eqb}
-use lib.ListN.{length}
+use lib.ListN.{length, drop}
 use Rattle.base.specs.Filling.{Filling, fitted}
 use Rattle.registers.specs.Rows.{tableLength}
 use Rattle.mop_block.specs.Block.{isAddress, first, next}
@@ -13,6 +13,9 @@ use Rattle.mop_header.specs.Header.{Head, telegramOf, bodyOf}
 use Rattle.mop_header.specs.Reading.{fine, Reading, reading}
 use Rattle.mop_header.specs.declared.Function.{Function}
 use Rattle.mop_header.specs.declared.Function.the-variants.{Request, Reply}
+use Rattle.mop_header.specs.Short.{shortOf}
+use Rattle.mop_header.specs.declared.ShortHeader.{ShortHeader}
+use Rattle.mop_header.proofs.Short.{short-length}
 use Rattle.mop_header.specs.declared.Reader.the-variants.{Station}
 use Rattle.mop_station.specs.Body.{judgedBody}
 use Rattle.mop_station.specs.Station.{notMine, refuses, leaving, sending, relayed, relaying, answering, taking, hearing, handling}
@@ -41,6 +44,11 @@ module _ (h : Head) (body t out : List ℕ) where
   pub reply-to-relay : {f : Function} (n : ℕ) → f ≡ Reply → taking f n h body t out ≡ relaying h body t out
   unfolding taking
   reply-to-relay n e = rw e
+
+-- behind a short header
+pub short-body : (h : ShortHeader) (telegram : List ℕ) → bodyOf (shortOf h) telegram ≡ drop 6 telegram
+unfolding bodyOf
+short-body h telegram = rw (short-length h)
 
 -- by the first entry
 module _ (own : ℕ) (h : Head) (telegram t out : List ℕ) where

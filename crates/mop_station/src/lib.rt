@@ -2,6 +2,7 @@
 use mop_header::Function;
 use mop_header::Header;
 use mop_header::Reader;
+use mop_header::ShortHeader;
 use mop_header::Verdict;
 use refusal::Refusal;
 use refusal::WriteAnswer;
@@ -20,6 +21,7 @@ ghost use Rattle.registers.specs.Runs.{longestRun};
 ghost use Rattle.mop_block.specs.Block.{next};
 ghost use Rattle.mop_header.specs.Header.{headOf, headerLength, telegramOf, sentBack};
 ghost use Rattle.mop_header.specs.Reading.{fine};
+ghost use Rattle.mop_header.specs.Short.{shortOf};
 ghost use Rattle.mop_body.specs.Body.{readStart, readCount, writeStart, valuesOf, replyWith};
 ghost use Rattle.mop_station.specs.Body.{acceptanceOf, accepts, judgedRuns, judgedBody};
 ghost use Rattle.mop_station.specs.Station.{handledOf, refuses, leaving, sending, handlingOf, relayed, replied, answering, taking, hearing, handling};
@@ -58,6 +60,25 @@ fn relay(header: Header, body: &[u8], out: &mut [u8]) -> WriteAnswer
     mop_header::write(sent, body, &mut *out)
 }
 
+// The short header that a relay sends on.
+fn relayed_short(header: ShortHeader) -> ShortHeader
+    ensures { λ r. ⌜ shortOf r ≡ relayed (header .function) (shortOf header) ⌝ }
+{
+    let function = header.function;
+    match function {
+        Function::Request => header.rolled_left(),
+        Function::Reply => header.rolled_right(),
+    }
+}
+
+// As `relay`, for a short header.
+fn relay_short(header: ShortHeader, body: &[u8], out: &mut [u8]) -> WriteAnswer
+    ensures { λ r. ⌜ fillingOf r (now (out .exit)) ≡ fitted (telegramOf (relayed (header .function) (shortOf header)) (now (body .entry))) (now (out .entry)) ⌝ }
+{
+    let sent = relayed_short(header);
+    mop_header::write_short(sent, body, &mut *out)
+}
+
 // What writing the telegram gives is what the station gives.
 fn handled(answer: WriteAnswer) -> StationAnswer
     ensures { λ r. ⌜ handledOf r ≡ sending (givenOf answer) ⌝ }
@@ -74,6 +95,14 @@ pub fn reply_header(header: Header) -> Header
 {
     let reply = header.as_reply();
     sent_back(reply)
+}
+
+// The same for a short header.
+fn short_reply(header: ShortHeader) -> ShortHeader
+    ensures { λ r. ⌜ shortOf r ≡ replied (shortOf header) ⌝ }
+{
+    let reply = header.as_reply();
+    reply.rolled_right()
 }
 
 // Whether a destination accepts a body, or why not.
@@ -195,6 +224,45 @@ fn answer(header: Header, body: &[u8], registers: &mut [u16], out: &mut [u8]) ->
     }
 }
 
+// As `carry_out`, for a short header.
+fn carry_out_short(
+    header: ShortHeader,
+    body: &[u8],
+    registers: &mut [u16],
+    out: &mut [u8],
+) -> StationAnswer
+    requires { ⌜ judgedBody (now body) ≡ accepts ⌝ }
+    requires { ⌜ length (now registers) ≡ tableLength ⌝ }
+    ensures { λ r. ⌜ handlingOf r (now (registers .exit)) (now (out .exit)) ≡ answering accepts (shortOf header) (now (body .entry)) (now (registers .entry)) (now (out .entry)) ⌝ }
+{
+    let reply = short_reply(header);
+    let count = body[2];
+    let n = 3 + 2 * count as usize;
+    if out.len() < 6 + n {
+        return StationAnswer::Refused(Refusal::OutputShort);
+    }
+    write_registers(body, &mut *registers);
+    let values = reply_body(body, &*registers);
+    let answer = mop_header::write_short(reply, &values[0..n], &mut *out);
+    handled(answer)
+}
+
+// As `answer`, for a short header.
+fn answer_short(
+    header: ShortHeader,
+    body: &[u8],
+    registers: &mut [u16],
+    out: &mut [u8],
+) -> StationAnswer
+    requires { ⌜ length (now registers) ≡ tableLength ⌝ }
+    ensures { λ r. ⌜ handlingOf r (now (registers .exit)) (now (out .exit)) ≡ answering (judgedBody (now (body .entry))) (shortOf header) (now (body .entry)) (now (registers .entry)) (now (out .entry)) ⌝ }
+{
+    match judge_body(body) {
+        BodyVerdict::Rejected(r) => StationAnswer::Refused(r),
+        BodyVerdict::Accepted => carry_out_short(header, body, &mut *registers, &mut *out),
+    }
+}
+
 // A request at its destination, for a caller that has read the header. What is sent, and what is refused with 7 to 11, as
 // `handle` has it. Refused with 1, and registers and out as they were: the table's length.
 pub fn answer_request(
@@ -253,6 +321,47 @@ fn hear(
     take_telegram(header, &telegram[at..n], &mut *registers, &mut *out)
 }
 
+// As `take_telegram`, for a short header.
+fn take_short(
+    header: ShortHeader,
+    body: &[u8],
+    registers: &mut [u16],
+    out: &mut [u8],
+) -> StationAnswer
+    requires { ⌜ length (now registers) ≡ tableLength ⌝ }
+    ensures { λ r. ⌜ handlingOf r (now (registers .exit)) (now (out .exit)) ≡ taking (header .function) (next (shortOf header .block)) (shortOf header) (now (body .entry)) (now (registers .entry)) (now (out .entry)) ⌝ }
+{
+    let function = header.function;
+    match function {
+        Function::Request => {
+            if header.second == 0 {
+                return answer_short(header, body, &mut *registers, &mut *out);
+            }
+            handled(relay_short(header, body, &mut *out))
+        }
+        Function::Reply => handled(relay_short(header, body, &mut *out)),
+    }
+}
+
+// As `hear`, for a short header.
+fn hear_short(
+    own: u8,
+    header: ShortHeader,
+    telegram: &[u8],
+    registers: &mut [u16],
+    out: &mut [u8],
+) -> StationAnswer
+    requires { ⌜ headerLength (shortOf header) ≤ length (now telegram) ⌝ }
+    requires { ⌜ length (now registers) ≡ tableLength ⌝ }
+    ensures { λ r. ⌜ handlingOf r (now (registers .exit)) (now (out .exit)) ≡ hearing fine own (shortOf header) (now (telegram .entry)) (now (registers .entry)) (now (out .entry)) ⌝ }
+{
+    if header.first != own {
+        return StationAnswer::NotMine;
+    }
+    let n = telegram.len();
+    take_short(header, &telegram[6..n], &mut *registers, &mut *out)
+}
+
 // One telegram at a station. What is sent fills the first places of out; the other places keep their values.
 // Not mine: the first entry is another's, or 00; registers and out are as they were.
 // Refused, and registers and out as they were: 1 for the own address or the table's length; 12, 2, 3, 4, 5, 6 for the
@@ -265,6 +374,11 @@ pub fn handle(own: u8, registers: &mut [u16], telegram: &[u8], out: &mut [u8]) -
     }
     if registers.len() != TABLE_LENGTH {
         return StationAnswer::Refused(Refusal::Setup);
+    }
+    let short = mop_header::read_short(telegram);
+    if short.fine {
+        let header = short.header;
+        return hear_short(own, header, telegram, &mut *registers, &mut *out);
     }
     let read = mop_header::read(Reader::Station, telegram);
     let header = read.header;
