@@ -1,7 +1,7 @@
-// Two-byte numbers, high byte first: made of two bytes, and written as bytes into a buffer.
+// Two-byte numbers, high byte first: made of bytes and stored, and written as bytes into a buffer.
 ghost use mathlib.Core.Path.{_≡_};
 ghost use lib.Seq.{sets};
-ghost use Rattle.base.specs.Words.{word, bytesOf};
+ghost use Rattle.base.specs.Words.{word, wordsOf, bytesOf};
 
 // The number of two bytes.
 pub fn word_of(high: u8, low: u8) -> u16
@@ -31,5 +31,22 @@ pub fn put_words(numbers: &[u16], out: &mut [u8], at: usize)
         out[place] = high;
         out[place + 1] = low;
         place += 2;
+    }
+}
+
+// Stores the numbers that the bytes hold, two bytes for each, to the places of table from `at` on; an odd last byte makes none.
+// Numbers for which there is no place are left out.
+pub fn store_words(bytes: &[u8], table: &mut [u16], at: usize)
+    ensures { λ r. ⌜ now (table .exit) ≡ sets (now (table .entry)) at (wordsOf (now (bytes .entry))) ⌝ }
+{
+    let mut place = at;
+    let mut i: usize = 0;
+    while 1 < bytes.len() - i {
+        if table.len() <= place {
+            return;
+        }
+        table[place] = word_of(bytes[i], bytes[i + 1]);
+        place += 1;
+        i += 2;
     }
 }

@@ -99,26 +99,6 @@ returns-3 c =
 pub put-words-spec : {M : Type 1} → statement M
 put-words-spec =
     tie.close
-    (tie.spec
-    Inv-loop
-    μ-loop
-    returns
-    loop-holds
-    mul-n
-    shared-slice-read-n
-    cast-high
-    cast-low
-    add-i
-    sub-if2
-    slice-aggregate-put
-    put-requires
-    same-length
-    returns-2
-    slice-write-out
-    add-out
-    slice-write-out-2
-    add-place
-    loop-less
-    loop-again
-    same-length-2
-    returns-3)
+    (tie.spec Inv-loop μ-loop returns loop-holds mul-n shared-slice-read-n cast-high cast-low add-i sub-if2
+    slice-aggregate-put put-requires same-length returns-2 slice-write-out add-out slice-write-out-2 add-place loop-less
+    loop-again same-length-2 returns-3)
