@@ -6,4 +6,3 @@ pub mod Zipper
 pub mod Seen
 pub mod Scan
 pub mod Pass
-pub mod Four
