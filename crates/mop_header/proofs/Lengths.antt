@@ -1,6 +1,6 @@
 -- The lengths of headers.
 -- Assumes nothing.
-use mathlib.Core.Path.{_≡_, refl, _∙_}
+use mathlib.Core.Path.{_≡_, refl, _∙_, ap}
 use mathlib.Core.Bool.{true, and-eq-true-iff}
 use mathlib.Core.List.{List}
 use Prim.Native.Nat.{ℕ, _+_, _≤_}
@@ -9,21 +9,31 @@ use borrow.Author.Tests.{leb-true, eqb-true}
 use lib.Dec.{leb}
 use lib.ListN.{length}
 use Rattle.mop_block.specs.Block.{first, rollLeft, rollRight}
-use Rattle.mop_block.proofs.Rolls.{length-left, length-right}
-use Rattle.mop_header.specs.Header.{Head, addressBytes, headerBytes, headerLength, markByte, withMark, remarked, rolledLeft, rolledRight, asReply, sentBack}
+use Rattle.mop_block.proofs.Rolls.{length-rolled, length-left, length-right}
+use Rattle.mop_header.specs.Header.{Head, entries, headOf, blockStart, addressBytes, headerBytes, headerLength, markByte, withMark, remarked, rolledLeft, rolledRight, asReply, sentBack}
 use Rattle.mop_header.specs.ReadBack.{sized, InOrder}
+use Rattle.mop_header.specs.declared.Header.{Header}
 use Rattle.mop_header.specs.declared.Reader.{Reader}
 use Rattle.mop_header.specs.declared.Form.{Form}
 use Rattle.mop_header.specs.declared.Form.the-variants.{Standard, Extended}
+use Rattle.mop_header.proofs.Turns.{length-entries}
 
-module _ (h : Head) where
-  pub length-standard : h .form ≡ Standard → headerLength h ≡ length (h .block) + 2
-  unfolding headerLength headerBytes addressBytes
-  length-standard told = rw told (omega arith)
+-- at most seven bytes stand before the block
+pub start-most : (form : Form) → blockStart form ≤ 7
+start-most Standard = omega arith
+start-most (Extended m) = omega arith
 
-  pub length-extended : {m : ℕ} → h .form ≡ Extended m → headerLength h ≡ length (h .block) + 7
-  unfolding headerLength headerBytes addressBytes
-  length-extended told = rw told (omega arith)
+-- the bytes of a header with a block of so many entries
+abbrev pub headerRoom : Form → ℕ → ℕ
+headerRoom form n = blockStart form + n
+
+room-by : (h : Head) (form : Form) → h .form ≡ form → headerLength h ≡ headerRoom form (length (h .block))
+unfolding headerLength headerBytes addressBytes
+room-by h Standard e = rw e (omega arith)
+room-by h (Extended m) e = rw e (omega arith)
+
+pub length-header : (h : Head) → headerLength h ≡ headerRoom (h .form) (length (h .block))
+length-header h = room-by h (h .form) refl
 
 -- remarking and rolling keep the length
 length-address : (m : Form) (b d : List ℕ) → length b ≡ length d → length (addressBytes m b) ≡ length (addressBytes m d)
@@ -57,27 +67,23 @@ pub length-sent-back : (h : Head) → headerLength (sentBack h) ≡ headerLength
 unfolding sentBack
 length-sent-back h = length-remarked (rolledRight h) ∙ length-rolled-right h
 
--- the bytes of a header with a block of so many entries
-abbrev pub headerRoom : Form → ℕ → ℕ
-headerRoom Standard n = n + 2
-headerRoom (Extended m) n = n + 7
-
-room-by : (h : Head) (form : Form) → h .form ≡ form → headerLength h ≡ headerRoom form (length (h .block))
-room-by h Standard e = length-standard h e
-room-by h (Extended m) e = length-extended h e
-
-pub length-header : (h : Head) → headerLength h ≡ headerRoom (h .form) (length (h .block))
-length-header h = room-by h (h .form) refl
-
 -- a block has at most 32 entries, and so a header in order at most 39 bytes
 pub sized-most : (form : Form) (n : ℕ) → sized form n ≡ true → n ≤ 32
 unfolding sized
 sized-most Standard n s = omega (arith, eqb-true n 4 s)
 sized-most (Extended m) n s = leb-true n 32 (and-eq-true-iff (leb 2 n) (leb n 32) .0 s .1)
 
-room-most : (form : Form) (n : ℕ) → n ≤ 32 → headerRoom form n ≤ 39
-room-most Standard n s = omega arith
-room-most (Extended m) n s = omega arith
-
 pub header-bound : (who : Reader) (h : Head) → InOrder who h → headerLength h ≤ 39
-header-bound who h o = rw (length-header h) (room-most (h .form) (length (h .block)) (sized-most (h .form) (length (h .block)) (o .size)))
+header-bound who h o = omega (arith, length-header h, start-most (h .form), sized-most (h .form) (length (h .block)) (o .size))
+
+-- a header of the code has as many entries as it counts, whatever slice stands beside it
+module _ (h : Header) (slice : List ℕ) where
+  pub length-block : length (headOf h slice .block) ≡ h .count
+  length-block = length-rolled (h .turn) (entries (h .count) slice) ∙ length-entries (h .count) slice
+
+  pub counted : headerLength (headOf h slice) ≡ headerRoom (h .form) (h .count)
+  counted = length-header (headOf h slice) ∙ rw length-block
+
+  -- the block begins before the header ends
+  pub start-within : {n : ℕ} → n ≡ blockStart (h .form) → n ≤ headerLength (headOf h slice)
+  start-within s = omega (arith, s, counted)

@@ -105,10 +105,6 @@ module _ (h : Head) where
   unfolding remarked
   remarked-function = refl
 
-  pub remarked-control : remarked h .control ≡ h .control
-  unfolding remarked
-  remarked-control = refl
-
   pub remarked-block : remarked h .block ≡ h .block
   unfolding remarked
   remarked-block = refl

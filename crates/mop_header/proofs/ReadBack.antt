@@ -13,7 +13,7 @@ use Rattle.base.specs.Choice.{pick}
 use Rattle.mop_block.specs.Block.{goodBlock, first}
 use Rattle.mop_block.proofs.Counts.{not-twice}
 use Rattle.mop_header.specs.Header.{Head, head, functionByte, addressBytes, headerBytes, headerLength, telegramOf, bodyOf, isMark, markByte, markIs, markAgrees}
-use Rattle.mop_header.specs.Reading.{fine, fault, Reading, sound, faulty, allowed, functionAt, goodFor, judged, standardReading, countAt, extendedReading, maxTelegram, reading}
+use Rattle.mop_header.specs.Reading.{Reading, sound, faulty, allowed, functionAt, goodFor, judged, standardReading, countAt, extendedReading, maxTelegram, reading}
 use Rattle.mop_header.specs.ReadBack.{sized, InOrder, ReadsBack, ReadWell, IsWritten, NoMark}
 use Rattle.mop_header.specs.declared.Function.{Function}
 use Rattle.mop_header.specs.declared.Form.{Form}
@@ -75,18 +75,18 @@ reads-back who h body o l = (back who (h .function) (h .control) body (h .form) 
 
 -- a test that was passed
 passed : (t : Bool) (k : ℕ) (x : Reading) (h : Head) → pick t (faulty k) x ≡ sound h → (t ≡ false) × (x ≡ sound h)
-passed true k x h e =
-    let f : fault k ≡ fine = ap (λ (r : Reading). r .finding) e in
-    let z : _≡_ {A = ℕ} 0 1 = cc in
-    absurd (omega arith)
+passed true k x h e = let z : _≡_ {A = ℕ} 0 1 = cc in absurd (omega arith)
 passed false k x h e = (refl, e)
+
+same-head : (h₀ h : Head) → sound h₀ ≡ sound h → h₀ ≡ h
+same-head h₀ h e = cc
 
 judged-order : (who : Reader) (h₀ h : Head) → judged who h₀ ≡ sound h → (goodFor who (h₀ .block) ≡ true) × (markAgrees h₀ ≡ true) × (h₀ ≡ h)
 unfolding judged
 judged-order who h₀ h e =
     let p = passed (not (goodFor who (h₀ .block))) 5 (pick (not (markAgrees h₀)) (faulty 6) (sound h₀)) h e in
     let q = passed (not (markAgrees h₀)) 6 (sound h₀) h (p .1) in
-    (not-false (goodFor who (h₀ .block)) (p .0), not-false (markAgrees h₀) (q .0), ap (λ (r : Reading). r .header) (q .1))
+    (not-false (goodFor who (h₀ .block)) (p .0), not-false (markAgrees h₀) (q .0), same-head h₀ h (q .1))
 
 -- a telegram that is a header and something is that header and its body
 whole-by : (h : Head) {tg : List ℕ} (rest : List ℕ) → telegramOf h rest ≡ tg → telegramOf h (bodyOf h tg) ≡ tg
@@ -153,11 +153,3 @@ is-written who tg h e =
 -- the header stands in the telegram
 pub sound-room : (who : Reader) (tg : List ℕ) (h : Head) → reading who tg ≡ sound h → headerLength h ≤ length tg
 sound-room who tg h e = omega (arith, length-telegram h (bodyOf h tg), ap length (is-written who tg h e .whole))
-
--- a telegram without a fault in its header reads as that header, and is not too long
-module _ (who : Reader) (tg : List ℕ) (e : reading who tg .finding ≡ fine) where
-  pub reading-fine : reading who tg ≡ sound (reading who tg .header)
-  reading-fine = λ i. record { finding = e i; header = reading who tg .header }
-
-  pub fine-short : length tg ≤ maxTelegram
-  fine-short = is-written who tg (reading who tg .header) reading-fine .short

@@ -1,34 +1,29 @@
 -- Reading a header, step by step: what each test gives.
 -- Assumes nothing.
-use mathlib.Core.Path.{_≡_, refl, sym, _∙_}
+use mathlib.Core.Path.{_≡_, refl, sym, _∙_, ap}
 use mathlib.Core.Bool.{Bool, true, false, not, and-false}
-use mathlib.Core.List.{List}
+use mathlib.Core.List.{List, _++_}
 use Prim.Native.Nat.{ℕ, _+_, _≤_, _<_}
 use borrow.Author.Tests.{lt-ltb, le-ltb, le-leb, lt-leb, not-false}
 use lib.Dec.{eqb, leb}
 use lib.ListN.{length, getD, take, drop}
 use Rattle.base.specs.Choice.{pick}
-use Rattle.mop_header.specs.Header.{Head, head, isMark, markAgrees}
-use Rattle.mop_header.specs.Reading.{sound, faulty, allowed, functionAt, goodFor, judged, standardReading, countAt, extendedReading, maxTelegram, reading}
+use Rattle.mop_header.specs.Header.{Head, head, isMark, markAgrees, blockStart}
+use Rattle.mop_header.specs.Private.Judge.{judgedRead}
+use Rattle.mop_header.specs.Reading.{readingOf, sound, faulty, allowed, functionAt, goodFor, judged, standardReading, countAt, extendedReading, maxTelegram, reading}
+use Rattle.mop_header.specs.declared.Form.{Form}
+use Rattle.mop_header.specs.declared.HeaderRead.the-variants.{Fine, Fault}
+use Rattle.refusal.specs.declared.Refusal.the-variants.{Block, Mark}
+use Rattle.mop_header.proofs.Turns.{rolled-zero, own-entries}
 use Rattle.mop_header.specs.declared.Form.the-variants.{Standard, Extended}
 use Rattle.mop_header.specs.declared.Function.{Function}
 use Rattle.mop_header.specs.declared.Function.the-variants.{Request, Reply}
 use Rattle.mop_header.specs.declared.Reader.{Reader}
 
 -- the block, then the mark
-module _ (who : Reader) (h : Head) where
-  pub bad-block : goodFor who (h .block) ≡ false → judged who h ≡ faulty 5
-  unfolding judged
-  bad-block e = rw e
-
-  module _ (good : goodFor who (h .block) ≡ true) where
-    pub bad-mark : markAgrees h ≡ false → judged who h ≡ faulty 6
-    unfolding judged
-    bad-mark e = rw (good, e)
-
-    pub judged-sound : markAgrees h ≡ true → judged who h ≡ sound h
-    unfolding judged
-    judged-sound e = rw (good, e)
+pub judged-sound : (who : Reader) (h : Head) → goodFor who (h .block) ≡ true → markAgrees h ≡ true → judged who h ≡ sound h
+unfolding judged
+judged-sound who h good mark = rw (good, mark)
 
 module _ (who : Reader) (tg : List ℕ) where
   -- the whole telegram
@@ -93,3 +88,17 @@ module _ (who : Reader) (tg : List ℕ) where
 pub without-mark : (who : Reader) (tg : List ℕ) → standardReading who tg ≡ judged who (head (functionAt tg) (getD tg 1 0) Standard (take 4 (drop 2 tg)))
 unfolding standardReading
 without-mark who tg = refl
+
+-- what `judge` gives, beside the telegram that the block stands in
+read-by : (who : Reader) (f : Function) (k : ℕ) (form : Form) (b tg rest : List ℕ) → drop (blockStart form) tg ≡ b ++ rest →
+    (good mark : Bool) → goodFor who b ≡ good → markAgrees (head f k form b) ≡ mark →
+    readingOf (pick (not good) (Fault Block) (pick (not mark) (Fault Mark) (Fine (record { function = f; control = k; form = form; count = length b; turn = 0 })))) tg
+    ≡ pick (not good) (faulty 5) (pick (not mark) (faulty 6) (sound (head f k form b)))
+read-by who f k form b tg rest e false mark g m = refl
+read-by who f k form b tg rest e true false g m = refl
+read-by who f k form b tg rest e true true g m = ap (λ (l : List ℕ). sound (head f k form l)) (rolled-zero _ ∙ rw e (own-entries b rest))
+
+pub read-judged : (who : Reader) (f : Function) (k : ℕ) (form : Form) (b tg rest : List ℕ) → drop (blockStart form) tg ≡ b ++ rest →
+    readingOf (judgedRead who f k form b) tg ≡ judged who (head f k form b)
+unfolding judgedRead judged
+read-judged who f k form b tg rest e = read-by who f k form b tg rest e (goodFor who b) (markAgrees (head f k form b)) refl refl

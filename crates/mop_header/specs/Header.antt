@@ -2,10 +2,10 @@
 -- Assumes nothing.
 use Prim.Native.Nat.{ℕ, zero, suc}
 use mathlib.Core.Bool.{Bool, true, _&&_, _||_}
-use mathlib.Core.List.{List, _∷_, _++_}
+use mathlib.Core.List.{List, [], _∷_, _++_}
 use lib.Dec.{eqb}
-use lib.ListN.{length, take, drop}
-use Rattle.mop_block.specs.Block.{first, rollLeft, rollRight}
+use lib.ListN.{length, getD, drop}
+use Rattle.mop_block.specs.Block.{first, rolled, rollLeft, rollRight}
 use Rattle.mop_header.specs.declared.Function.{Function}
 use Rattle.mop_header.specs.declared.Function.the-variants.{Request, Reply}
 use Rattle.mop_header.specs.declared.Form.{Form}
@@ -26,9 +26,24 @@ head function control form block = record { function = function; control = contr
 abbrev pub maxEntries : ℕ
 maxEntries = 32
 
--- what a header of the code stands for: the block is the first count entries, and those behind them mean nothing
-abbrev pub headOf : Header → Head
-headOf h = head (h .function) (h .control) (h .form) (take (h .count) (h .entries))
+-- so many entries from the front of a slice, with 00 where it has none
+unfoldable pub entries : ℕ → List ℕ → List ℕ
+entries zero slice = []
+entries (suc n) slice = getD slice 0 0 ∷ entries n (drop 1 slice)
+
+-- what a header of the code stands for, beside the slice that holds its entries: the block is the first count of them, rolled
+-- to the left by turn; a turn of count or more rolls nothing
+abbrev pub headOf : Header → List ℕ → Head
+headOf h slice = head (h .function) (h .control) (h .form) (rolled (h .turn) (entries (h .count) slice))
+
+-- what a method makes of a header, whatever slice stands beside it
+abbrev pub beside : (Head → Head) → (List ℕ → Head) → List ℕ → Head
+beside f h slice = f (h slice)
+
+-- how many bytes stand before the block of a telegram
+abbrev pub blockStart : Form → ℕ
+blockStart Standard = 2
+blockStart (Extended mark) = 7
 
 -- the function byte
 abbrev pub functionByte : Function → ℕ

@@ -2,45 +2,30 @@
 -- Assumes nothing.
 use Prim.Native.Nat.{ℕ, _+_}
 use mathlib.Core.Bool.{Bool, not, _&&_, _||_}
-use mathlib.Core.List.{List, []}
+use mathlib.Core.List.{List}
 use lib.Dec.{eqb, ltb, leb}
 use lib.ListN.{length, getD, take, drop}
 use Rattle.base.specs.Choice.{pick}
 use Rattle.refusal.specs.Numbers.{numberOf}
 use Rattle.mop_block.specs.Block.{stations, goodBlock}
-use Rattle.mop_header.specs.Header.{Head, head, maxEntries, headOf, functionByte, isMark, markAgrees}
+use Rattle.mop_header.specs.Header.{Head, head, maxEntries, headOf, blockStart, functionByte, isMark, markAgrees}
 use Rattle.mop_header.specs.declared.Function.{Function}
 use Rattle.mop_header.specs.declared.Function.the-variants.{Request, Reply}
 use Rattle.mop_header.specs.declared.Form.the-variants.{Standard, Extended}
 use Rattle.mop_header.specs.declared.Reader.{Reader}
 use Rattle.mop_header.specs.declared.Reader.the-variants.{Station, Centre}
-use Rattle.mop_header.specs.declared.Verdict.{Verdict}
-use Rattle.mop_header.specs.declared.Verdict.the-variants.{Fine, Fault}
 use Rattle.mop_header.specs.declared.HeaderRead.{HeaderRead}
+use Rattle.mop_header.specs.declared.HeaderRead.the-variants.{Fine, Fault}
 
--- a verdict in numbers: no fault in the header, or the number of a refusal
-pub data Finding : Type 0 where
-  fine : Finding
-  fault : ℕ → Finding
+-- what reading gives: a header without a fault, or the number of a refusal
+pub data Reading : Type 0 where
+  sound : Head → Reading
+  faulty : ℕ → Reading
 
-abbrev pub findingOf : Verdict → Finding
-findingOf Fine = fine
-findingOf (Fault r) = fault (numberOf r)
-
--- what reading gives: the verdict, and the header
-pub record Reading : Type 0 where
-  pub finding : Finding
-  pub header : Head
-
-abbrev pub readingOf : HeaderRead → Reading
-readingOf r = record { finding = findingOf (r .verdict); header = headOf (r .header) }
-
--- a header without a fault; a refusal, which goes with an empty header
-abbrev pub sound : Head → Reading
-sound h = record { finding = fine; header = h }
-
-abbrev pub faulty : ℕ → Reading
-faulty k = record { finding = fault k; header = head Request 0 Standard [] }
+-- the header that was read, beside the telegram from its block on
+abbrev pub readingOf : HeaderRead → List ℕ → Reading
+readingOf (Fine h) telegram = sound (headOf h (drop (blockStart (h .form)) telegram))
+readingOf (Fault r) telegram = faulty (numberOf r)
 
 -- the function bytes that a reader takes: a station those of requests and replies, the centre only that of replies
 unfoldable pub allowed : Reader → ℕ → Bool

@@ -1,24 +1,23 @@
-// The header of a MoP telegram: read, rolled, marked and written.
+// The header of a MoP telegram by value: read, rolled, marked and written. The entries of its block stay where they were read,
+// in a slice of the caller's that is lent beside it; a header is one only together with that slice.
 use refusal::Refusal;
 use refusal::WriteAnswer;
 ghost use mathlib.Core.Path.{_≡_};
-ghost use mathlib.Core.Bool.{true};
-ghost use Prim.Native.Nat.{_+_, _≤_, _<_};
-ghost use mathlib.Core.List.{_∷_};
-ghost use lib.ListN.{length, getD, take};
+ghost use Prim.Native.Nat.{ℕ, _+_, _-_, _≤_, _<_};
+ghost use mathlib.Core.List.{List};
+ghost use lib.ListN.{length, getD, drop};
 ghost use lib.Seq.{sets};
 ghost use lib.Dec.{eqb};
 ghost use Rattle.base.specs.Choice.{pick};
 ghost use Rattle.base.specs.Filling.{fitted};
-ghost use Rattle.refusal.specs.Numbers.{numberOf};
 ghost use Rattle.refusal.specs.Writing.{fillingOf};
 ghost use Rattle.mop_block.specs.Block.{rolled, first, next};
 ghost use Rattle.mop_header.specs.declared.Function.the-variants.{Request, Reply};
 ghost use Rattle.mop_header.specs.declared.Form.the-variants.{Standard, Extended};
-ghost use Rattle.mop_header.specs.Header.{head, maxEntries, headOf, functionByte, headerBytes, headerLength, telegramOf, isMark, markByte, markIs, withMark, remarked, rolledLeft, rolledRight, asReply};
-ghost use Rattle.mop_header.specs.Short.{shortOf};
-ghost use Rattle.mop_header.specs.declared.Reader.the-variants.{Station};
-ghost use Rattle.mop_header.specs.Reading.{readingOf, sound, faulty, allowed, goodFor, judged, reading};
+ghost use Rattle.mop_header.specs.Header.{head, entries, headOf, beside, blockStart, functionByte, headerBytes, headerLength, telegramOf, isMark, markByte, markIs, withMark, remarked, rolledLeft, rolledRight, asReply};
+ghost use Rattle.mop_header.specs.Private.Judge.{judgedRead};
+ghost use Rattle.mop_header.specs.Private.Places.{firstPlace};
+ghost use Rattle.mop_header.specs.Reading.{readingOf, allowed, goodFor, reading};
 
 // The mark's bytes, but for the first one that may be 00.
 pub const MARK: u8 = 0xEF;
@@ -44,13 +43,14 @@ pub enum Form {
     Extended(u8),
 }
 
-// The header of a telegram. The block is the first count entries; other crates see it by the methods.
+// The header of a telegram. Its block is the first count entries of the slice lent beside it, from the one at place turn on
+// and around; an entry that the slice lacks is 00. Other crates see the function, and all else by the methods.
 pub struct Header {
     pub function: Function,
     control: u8,
     form: Form,
-    count: usize,
-    entries: [u8; MAX_ENTRIES],
+    count: u8,
+    turn: u8,
 }
 
 // Who reads a telegram.
@@ -59,28 +59,10 @@ pub enum Reader {
     Centre,
 }
 
-// Whether a header is without a fault.
-pub enum Verdict {
-    Fine,
+// What reading a header gives. The header is to stand beside the telegram from its block on.
+pub enum HeaderRead {
+    Fine(Header),
     Fault(Refusal),
-}
-
-// What reading a header gives. Beside a fault stands an empty header.
-pub struct HeaderRead {
-    pub verdict: Verdict,
-    pub header: Header,
-}
-
-// Entries with the first n rolled so many places to the left.
-fn rolled_entries(old: [u8; MAX_ENTRIES], n: usize, by: usize) -> [u8; MAX_ENTRIES]
-    requires { ⌜ n ≤ 32 ⌝ }
-    requires { ⌜ by ≤ n ⌝ }
-    ensures { λ r. ⌜ take n r ≡ rolled by (take n old) ⌝ }
-{
-    let mut new = old;
-    places::put(&old[by..n], &mut new, 0);
-    places::put(&old[0..by], &mut new, n - by);
-    new
 }
 
 // The first mark byte of an extended header, by the block's first entry.
@@ -108,162 +90,164 @@ fn with_mark(form: Form, mark: u8) -> Form
     }
 }
 
+// The entry of a slice at a place; 00 where there is none.
+fn entry_at(slice: &[u8], place: usize) -> u8
+    ensures { λ r. ⌜ r ≡ getD (now (slice .entry)) place 0 ⌝ }
+{
+    if slice.len() <= place {
+        return 0;
+    }
+    slice[place]
+}
+
 impl Header {
-    // A header of these parts. Of a block with more than 32 entries it has the first 32.
-    pub fn new(function: Function, control: u8, form: Form, block: &[u8]) -> Self
-        ensures { λ r. ⌜ headOf r ≡ head function control form (take maxEntries (now (block .entry))) ⌝ }
+    // A header of these parts, with so many entries.
+    pub fn new(function: Function, control: u8, form: Form, count: u8) -> Self
+        ensures { λ r. ⌜ ((slice : List ℕ) → headOf r slice ≡ head function control form (entries count slice)) ⌝ }
     {
-        let mut entries = [0u8; MAX_ENTRIES];
-        places::put(block, &mut entries, 0);
         Header {
             function,
             control,
             form,
-            count: block.len(),
-            entries,
-        }
-    }
-
-    // How many entries the block has.
-    pub fn entry_count(self) -> usize
-        ensures { λ r. ⌜ r ≡ length (headOf self .block) ⌝ }
-        ensures { λ r. ⌜ r ≤ 32 ⌝ }
-    {
-        if MAX_ENTRIES < self.count {
-            return MAX_ENTRIES;
-        }
-        self.count
-    }
-
-    // How many bytes the header has.
-    pub fn length(self) -> usize
-        ensures { λ r. ⌜ r ≡ headerLength (headOf self) ⌝ }
-        ensures { λ r. ⌜ r ≤ 39 ⌝ }
-    {
-        let n = self.entry_count();
-        let form = self.form;
-        match form {
-            Form::Standard => n + 2,
-            Form::Extended(_) => n + 7,
-        }
-    }
-
-    // The entry of the block at a place; 00 where there is none.
-    pub fn entry(self, place: usize) -> u8
-        ensures { λ r. ⌜ r ≡ getD (headOf self .block) place 0 ⌝ }
-    {
-        let count = self.entry_count();
-        if count <= place {
-            return 0;
-        }
-        let entries = self.entries;
-        entries[place]
-    }
-
-    // The first entry of the block; 00 where there is none.
-    pub fn first(self) -> u8
-        ensures { λ r. ⌜ r ≡ first (headOf self .block) ⌝ }
-    {
-        if self.count == 0 {
-            return 0;
-        }
-        self.entries[0]
-    }
-
-    // The entry behind the first; 00 where there is none.
-    pub fn next(self) -> u8
-        ensures { λ r. ⌜ r ≡ next (headOf self .block) ⌝ }
-    {
-        if self.count < 2 {
-            return 0;
-        }
-        self.entries[1]
-    }
-
-    // A new reply, in the form and with the block of the request.
-    pub fn as_reply(self) -> Self
-        ensures { λ r. ⌜ headOf r ≡ asReply (headOf self) ⌝ }
-    {
-        let form = self.form;
-        let count = self.count;
-        let entries = self.entries;
-        Header {
-            function: Function::Reply,
-            control: NEW_CONTROL,
-            form,
             count,
-            entries,
+            turn: 0,
         }
     }
 
-    // The block rolled so many places to the left.
-    fn rolled(self, n: usize, by: usize) -> Self
-        requires { ⌜ n ≡ length (headOf self .block) ⌝ }
-        requires { ⌜ n ≤ 32 ⌝ }
-        requires { ⌜ by ≤ n ⌝ }
-        ensures { λ r. ⌜ headOf r ≡ head (self .function) (self .control) (self .form) (rolled by (headOf self .block)) ⌝ }
+    // The place of the first entry: turn, or 0 where that is past the block.
+    fn place(self) -> u8
+        ensures { λ r. ⌜ r ≡ firstPlace (self .count) (self .turn) ⌝ }
+        ensures { λ r. ⌜ r ≤ self .count ⌝ }
+    {
+        if self.turn < self.count {
+            return self.turn;
+        }
+        0
+    }
+
+    // The header with another entry first.
+    fn turned(self, turn: u8) -> Self
+        ensures { λ r. ⌜ ((slice : List ℕ) → headOf r slice ≡ head (self .function) (self .control) (self .form) (rolled turn (entries (self .count) slice))) ⌝ }
     {
         let function = self.function;
         let form = self.form;
-        let old = self.entries;
-        let entries = rolled_entries(old, n, by);
         Header {
             function,
             control: self.control,
             form,
-            count: n,
-            entries,
+            count: self.count,
+            turn,
         }
     }
 
     // The block rolled one place to the left.
     pub fn rolled_left(self) -> Self
-        ensures { λ r. ⌜ headOf r ≡ rolledLeft (headOf self) ⌝ }
+        ensures { λ r. ⌜ headOf r ≡ beside rolledLeft (headOf self) ⌝ }
     {
-        let n = self.entry_count();
-        if n == 0 {
-            return self;
+        let at = self.place();
+        if self.count - at > 1 {
+            return self.turned(at + 1);
         }
-        self.rolled(n, 1)
+        self.turned(0)
     }
 
     // The block rolled one place to the right.
     pub fn rolled_right(self) -> Self
-        ensures { λ r. ⌜ headOf r ≡ rolledRight (headOf self) ⌝ }
+        ensures { λ r. ⌜ headOf r ≡ beside rolledRight (headOf self) ⌝ }
     {
-        let n = self.entry_count();
-        if n == 0 {
+        let at = self.place();
+        if 0 < at {
+            return self.turned(at - 1);
+        }
+        if self.count == 0 {
             return self;
         }
-        self.rolled(n, n - 1)
+        self.turned(self.count - 1)
     }
 
-    // The block rolled so many places to the left; a block that has not so many entries stays.
-    pub fn rolled_by(self, by: usize) -> Self
-        ensures { λ r. ⌜ headOf r ≡ head (self .function) (self .control) (self .form) (rolled by (headOf self .block)) ⌝ }
+    // How many entries the block has.
+    pub fn entry_count(self) -> usize
+        ensures { λ r. ⌜ ((slice : List ℕ) → r ≡ length (headOf self slice .block)) ⌝ }
     {
-        let n = self.entry_count();
-        if n < by {
-            return self;
+        self.count as usize
+    }
+
+    // How many bytes stand before the block, in the telegram that the header was read in.
+    pub fn block_start(self) -> usize
+        ensures { λ r. ⌜ r ≡ blockStart (self .form) ⌝ }
+    {
+        let form = self.form;
+        match form {
+            Form::Standard => 2,
+            Form::Extended(_) => 7,
         }
-        self.rolled(n, by)
+    }
+
+    // How many bytes the header has.
+    pub fn length(self) -> usize
+        ensures { λ r. ⌜ ((slice : List ℕ) → r ≡ headerLength (headOf self slice)) ⌝ }
+    {
+        self.block_start() + self.count as usize
+    }
+
+    // The entry of the block at a place; 00 where there is none.
+    pub fn entry(self, block: &[u8], place: usize) -> u8
+        ensures { λ r. ⌜ r ≡ getD (headOf self (now (block .entry)) .block) place 0 ⌝ }
+    {
+        let count = self.count as usize;
+        if count <= place {
+            return 0;
+        }
+        let at = self.place() as usize;
+        let left = count - at;
+        if place < left {
+            return entry_at(block, at + place);
+        }
+        entry_at(block, place - left)
+    }
+
+    // The first entry of the block; 00 where there is none.
+    pub fn first(self, block: &[u8]) -> u8
+        ensures { λ r. ⌜ r ≡ first (headOf self (now (block .entry)) .block) ⌝ }
+    {
+        self.entry(block, 0)
+    }
+
+    // The entry behind the first; 00 where there is none.
+    pub fn next(self, block: &[u8]) -> u8
+        ensures { λ r. ⌜ r ≡ next (headOf self (now (block .entry)) .block) ⌝ }
+    {
+        self.entry(block, 1)
     }
 
     // The mark set by the block's first entry.
-    pub fn remarked(self) -> Self
-        ensures { λ r. ⌜ headOf r ≡ remarked (headOf self) ⌝ }
+    pub fn remarked(self, block: &[u8]) -> Self
+        ensures { λ r. ⌜ headOf r (now (block .entry)) ≡ remarked (headOf self (now (block .entry))) ⌝ }
     {
         let function = self.function;
         let old = self.form;
-        let entries = self.entries;
-        let mark = mark_of(function, self.first());
+        let mark = mark_of(function, self.first(block));
         let form = with_mark(old, mark);
         Header {
             function,
             control: self.control,
             form,
             count: self.count,
-            entries,
+            turn: self.turn,
+        }
+    }
+
+    // A new reply, in the form and with the block of the request.
+    pub fn as_reply(self) -> Self
+        ensures { λ r. ⌜ headOf r ≡ beside asReply (headOf self) ⌝ }
+    {
+        let form = self.form;
+        Header {
+            function: Function::Reply,
+            control: NEW_CONTROL,
+            form,
+            count: self.count,
+            turn: self.turn,
         }
     }
 }
@@ -278,67 +262,60 @@ pub fn function_byte(function: Function) -> u8
     }
 }
 
-// Writes a standard header.
-fn write_standard(function: u8, control: u8, block: &[u8], out: &mut [u8])
-    requires { ⌜ 2 + length (now block) ≤ length (now out) ⌝ }
-    ensures { λ r. ⌜ now (out .exit) ≡ sets (now (out .entry)) 0 (function ∷ control ∷ now (block .entry)) ⌝ }
+// Puts the entries of a slice from one place to another.
+fn put_entries(block: &[u8], from: usize, end: usize, out: &mut [u8], at: usize)
+    requires { ⌜ from ≤ end ⌝ }
+    requires { ⌜ at + (end - from) ≤ length (now out) ⌝ }
+    ensures { λ r. ⌜ now (out .exit) ≡ sets (now (out .entry)) at (drop from (entries end (now (block .entry)))) ⌝ }
 {
-    out[0] = function;
-    out[1] = control;
-    if block.len() == 4 {
-        out[2] = block[0];
-        out[3] = block[1];
-        out[4] = block[2];
-        out[5] = block[3];
-        return;
+    let mut place = at;
+    let mut i = from;
+    while i < end {
+        out[place] = entry_at(block, i);
+        place += 1;
+        i += 1;
     }
-    places::put(block, &mut *out, 2);
 }
 
-// Writes an extended header, with a block of so many entries.
-fn write_extended(function: u8, control: u8, mark: u8, count: u8, block: &[u8], out: &mut [u8])
-    requires { ⌜ 7 + length (now block) ≤ length (now out) ⌝ }
-    ensures { λ r. ⌜ now (out .exit) ≡ sets (now (out .entry)) 0 (function ∷ control ∷ mark ∷ 0xEF ∷ 0xEF ∷ 0xEF ∷ count ∷ now (block .entry)) ⌝ }
+// Puts the block of a header: the entries from the first one on, then those before it.
+fn put_block(header: Header, block: &[u8], out: &mut [u8], at: usize)
+    requires { ⌜ at + header .count ≤ length (now out) ⌝ }
+    ensures { λ r. ⌜ now (out .exit) ≡ sets (now (out .entry)) at (headOf header (now (block .entry)) .block) ⌝ }
 {
-    out[0] = function;
-    out[1] = control;
-    out[2] = mark;
-    out[3] = MARK;
-    out[4] = MARK;
-    out[5] = MARK;
-    out[6] = count;
-    places::put(block, &mut *out, 7);
+    let n = header.count as usize;
+    let first = header.place() as usize;
+    put_entries(block, first, n, &mut *out, at);
+    put_entries(block, 0, first, &mut *out, at + (n - first));
 }
 
 // Writes the bytes of a header.
-fn write_header(header: Header, out: &mut [u8])
-    requires { ⌜ headerLength (headOf header) ≤ length (now out) ⌝ }
-    ensures { λ r. ⌜ now (out .exit) ≡ sets (now (out .entry)) 0 (headerBytes (headOf header)) ⌝ }
+fn write_header(header: Header, block: &[u8], out: &mut [u8])
+    requires { ⌜ headerLength (headOf header (now block)) ≤ length (now out) ⌝ }
+    ensures { λ r. ⌜ now (out .exit) ≡ sets (now (out .entry)) 0 (headerBytes (headOf header (now (block .entry)))) ⌝ }
 {
-    let n = header.entry_count();
     let form = header.form;
-    let entries = header.entries;
     let function = header.function;
     let byte = function_byte(function);
     match form {
-        Form::Standard => write_standard(byte, header.control, &entries[0..n], &mut *out),
+        Form::Standard => {
+            places::put(&[byte, header.control], &mut *out, 0);
+            put_block(header, block, &mut *out, 2)
+        }
         Form::Extended(mark) => {
-            write_extended(
-                byte,
-                header.control,
-                mark,
-                n as u8,
-                &entries[0..n],
+            places::put(
+                &[byte, header.control, mark, MARK, MARK, MARK, header.count],
                 &mut *out,
-            )
+                0,
+            );
+            put_block(header, block, &mut *out, 7)
         }
     }
 }
 
-// The telegram of a header and a body in the first places of out; the other places keep their values.
+// The telegram of a header, beside its entries, and a body in the first places of out; the other places keep their values.
 // Refused with 11, and out as it was: an output that is too short.
-pub fn write(header: Header, body: &[u8], out: &mut [u8]) -> WriteAnswer
-    ensures { λ r. ⌜ fillingOf r (now (out .exit)) ≡ fitted (telegramOf (headOf header) (now (body .entry))) (now (out .entry)) ⌝ }
+pub fn write(header: Header, block: &[u8], body: &[u8], out: &mut [u8]) -> WriteAnswer
+    ensures { λ r. ⌜ fillingOf r (now (out .exit)) ≡ fitted (telegramOf (headOf header (now (block .entry))) (now (body .entry))) (now (out .entry)) ⌝ }
 {
     let n = header.length();
     if out.len() < n {
@@ -347,7 +324,7 @@ pub fn write(header: Header, body: &[u8], out: &mut [u8]) -> WriteAnswer
     if out.len() - n < body.len() {
         return WriteAnswer::Refused(Refusal::OutputShort);
     }
-    write_header(header, &mut *out);
+    write_header(header, block, &mut *out);
     places::put(body, &mut *out, n);
     WriteAnswer::Written(n + body.len())
 }
@@ -407,23 +384,6 @@ fn has_mark(form: Form, mark: u8) -> bool
     }
 }
 
-// A refusal, beside an empty header.
-fn fault(refusal: Refusal) -> HeaderRead
-    ensures { λ r. ⌜ readingOf r ≡ faulty (numberOf refusal) ⌝ }
-{
-    let header = Header {
-        function: Function::Request,
-        control: 0,
-        form: Form::Standard,
-        count: 0,
-        entries: [0u8; MAX_ENTRIES],
-    };
-    HeaderRead {
-        verdict: Verdict::Fault(refusal),
-        header,
-    }
-}
-
 // Whether a reader takes a block.
 fn good_for(reader: Reader, block: &[u8]) -> bool
     ensures { λ r. ⌜ r ≡ goodFor reader (now (block .entry)) ⌝ }
@@ -441,19 +401,22 @@ fn good_for(reader: Reader, block: &[u8]) -> bool
 fn judge(reader: Reader, function: Function, control: u8, form: Form, block: &[u8]) -> HeaderRead
     requires { ⌜ 0 < length (now block) ⌝ }
     requires { ⌜ length (now block) ≤ 32 ⌝ }
-    ensures { λ r. ⌜ readingOf r ≡ judged reader (head function control form (now (block .entry))) ⌝ }
+    ensures { λ r. ⌜ r ≡ judgedRead reader function control form (now (block .entry)) ⌝ }
 {
     if !good_for(reader, block) {
-        return fault(Refusal::Block);
+        return HeaderRead::Fault(Refusal::Block);
     }
     if !has_mark(form, mark_of(function, block[0])) {
-        return fault(Refusal::Mark);
+        return HeaderRead::Fault(Refusal::Mark);
     }
-    let header = Header::new(function, control, form, block);
-    HeaderRead {
-        verdict: Verdict::Fine,
-        header,
-    }
+    let header = Header {
+        function,
+        control,
+        form,
+        count: block.len() as u8,
+        turn: 0,
+    };
+    HeaderRead::Fine(header)
 }
 
 // The form of a header, by whether its four entries are the mark.
@@ -468,17 +431,17 @@ fn form_of(extended: bool, mark: u8) -> Form
 
 // The header of a telegram, or why it is refused: 12, 2, 3, if extended 2, 4, 2, then 5, 6.
 pub fn read(reader: Reader, telegram: &[u8]) -> HeaderRead
-    ensures { λ r. ⌜ readingOf r ≡ reading reader (now (telegram .entry)) ⌝ }
+    ensures { λ r. ⌜ readingOf r (now (telegram .entry)) ≡ reading reader (now (telegram .entry)) ⌝ }
 {
     if MAX_TELEGRAM < telegram.len() {
-        return fault(Refusal::TooLong);
+        return HeaderRead::Fault(Refusal::TooLong);
     }
     if telegram.len() < 6 {
-        return fault(Refusal::HeaderCut);
+        return HeaderRead::Fault(Refusal::HeaderCut);
     }
     let byte = telegram[0];
     if !is_allowed(reader, byte) {
-        return fault(Refusal::Function);
+        return HeaderRead::Fault(Refusal::Function);
     }
     let function = function_of(byte);
     let extended = is_mark(function, telegram[2], telegram[3], telegram[4], telegram[5]);
@@ -486,152 +449,22 @@ pub fn read(reader: Reader, telegram: &[u8]) -> HeaderRead
     let mut end: usize = 6;
     if extended {
         if telegram.len() < 7 {
-            return fault(Refusal::HeaderCut);
+            return HeaderRead::Fault(Refusal::HeaderCut);
         }
         let entries = telegram[6];
         let count = entries as usize;
         if count < 2 {
-            return fault(Refusal::ExtendedCount);
+            return HeaderRead::Fault(Refusal::ExtendedCount);
         }
         if MAX_ENTRIES < count {
-            return fault(Refusal::ExtendedCount);
+            return HeaderRead::Fault(Refusal::ExtendedCount);
         }
         start = 7;
         end = 7 + count;
         if telegram.len() < end {
-            return fault(Refusal::HeaderCut);
+            return HeaderRead::Fault(Refusal::HeaderCut);
         }
     }
     let form = form_of(extended, telegram[2]);
     judge(reader, function, telegram[1], form, &telegram[start..end])
-}
-
-// A standard header with its four entries one by one: what most telegrams have, and quicker to pass on than a row of 32.
-pub struct ShortHeader {
-    pub function: Function,
-    control: u8,
-    pub first: u8,
-    pub second: u8,
-    third: u8,
-    fourth: u8,
-}
-
-impl ShortHeader {
-    // A new reply, with the block of the request.
-    pub fn as_reply(self) -> Self
-        ensures { λ r. ⌜ shortOf r ≡ asReply (shortOf self) ⌝ }
-    {
-        let function = Function::Reply;
-        ShortHeader {
-            function,
-            control: NEW_CONTROL,
-            first: self.first,
-            second: self.second,
-            third: self.third,
-            fourth: self.fourth,
-        }
-    }
-
-    // The block rolled one place to the left.
-    pub fn rolled_left(self) -> Self
-        ensures { λ r. ⌜ shortOf r ≡ rolledLeft (shortOf self) ⌝ }
-    {
-        let function = self.function;
-        ShortHeader {
-            function,
-            control: self.control,
-            first: self.second,
-            second: self.third,
-            third: self.fourth,
-            fourth: self.first,
-        }
-    }
-
-    // The block rolled one place to the right.
-    pub fn rolled_right(self) -> Self
-        ensures { λ r. ⌜ shortOf r ≡ rolledRight (shortOf self) ⌝ }
-    {
-        let function = self.function;
-        ShortHeader {
-            function,
-            control: self.control,
-            first: self.fourth,
-            second: self.first,
-            third: self.second,
-            fourth: self.third,
-        }
-    }
-}
-
-// As `write`, for a short header.
-pub fn write_short(header: ShortHeader, body: &[u8], out: &mut [u8]) -> WriteAnswer
-    ensures { λ r. ⌜ fillingOf r (now (out .exit)) ≡ fitted (telegramOf (shortOf header) (now (body .entry))) (now (out .entry)) ⌝ }
-{
-    if out.len() < 6 {
-        return WriteAnswer::Refused(Refusal::OutputShort);
-    }
-    if out.len() - 6 < body.len() {
-        return WriteAnswer::Refused(Refusal::OutputShort);
-    }
-    let function = header.function;
-    out[0] = function_byte(function);
-    out[1] = header.control;
-    out[2] = header.first;
-    out[3] = header.second;
-    out[4] = header.third;
-    out[5] = header.fourth;
-    places::put(body, &mut *out, 6);
-    WriteAnswer::Written(6 + body.len())
-}
-
-// What reading a short header gives. Where it is not fine, the telegram is for `read`.
-pub struct ShortRead {
-    pub fine: bool,
-    pub header: ShortHeader,
-}
-
-// The header of a telegram at a station, where it is a standard one without a fault. Whether it is called fine is left free:
-// what holds is that a header which is called so is the one that `read` gives, without a fault.
-pub fn read_short(telegram: &[u8]) -> ShortRead
-    ensures { λ r. ⌜ (r .fine ≡ true → reading Station (now (telegram .entry)) ≡ sound (shortOf (r .header))) ⌝ }
-{
-    let other = ShortHeader {
-        function: Function::Request,
-        control: 0,
-        first: 0,
-        second: 0,
-        third: 0,
-        fourth: 0,
-    };
-    let n = telegram.len();
-    if n < 6 {
-        return ShortRead {
-            fine: false,
-            header: other,
-        };
-    }
-    let byte = telegram[0];
-    let function = function_of(byte);
-    let header = ShortHeader {
-        function,
-        control: telegram[1],
-        first: telegram[2],
-        second: telegram[3],
-        third: telegram[4],
-        fourth: telegram[5],
-    };
-    if MAX_TELEGRAM < n {
-        return ShortRead {
-            fine: false,
-            header: other,
-        };
-    }
-    if !is_allowed(Reader::Station, byte) {
-        return ShortRead {
-            fine: false,
-            header: other,
-        };
-    }
-    let fine = mop_block::good_four(header.first, header.second, header.third, header.fourth);
-    ShortRead { fine, header }
 }

@@ -34,12 +34,4 @@ returns-3 c =
 
 pub good-for-spec : {M : Type 1} → statement M
 good-for-spec =
-    tie.close
-    (tie.spec
-    good-block-requires
-    returns
-    enum-told
-    enum-told-2
-    names-somebody-requires
-    returns-2
-    returns-3)
+    tie.close (tie.spec good-block-requires returns enum-told enum-told-2 names-somebody-requires returns-2 returns-3)

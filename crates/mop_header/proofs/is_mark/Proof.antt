@@ -32,6 +32,4 @@ returns-6 : tie.Need-returns-6
 returns-6 c = rw (c .enum-told2 .given .1) (sym (by-first _ _ _ _ _ (omega arith) (omega arith) (omega arith) ∙ begins-reply _ (omega arith)))
 
 pub is-mark-spec : {M : Type 1} → statement M
-is-mark-spec =
-    tie.close
-    (tie.spec returns returns-2 returns-3 returns-4 enum-told enum-told-2 returns-5 returns-6)
+is-mark-spec = tie.close (tie.spec returns returns-2 returns-3 returns-4 enum-told enum-told-2 returns-5 returns-6)

@@ -1,12 +1,9 @@
--- `judge`: the block, then the mark; the entries are those of the block.
+-- `judge`: the block, then the mark.
 -- Assumes nothing.
-use mathlib.Core.Path.{sym, _∙_, ap}
-use lib.Seq.{take-all}
+use mathlib.Core.Path.{sym, _∙_}
 use borrow.Author.Tests.{not-true, not-false}
-use Rattle.mop_header.specs.Header.{head, maxEntries}
-use Rattle.mop_header.specs.Reading.{sound}
+use Rattle.mop_header.specs.Private.Judge.{judgedRead}
 use Rattle.mop_header.proofs.Marks.{mark-decides}
-use Rattle.mop_header.proofs.Steps.{bad-block, bad-mark, judged-sound}
 use borrow.Author.Needs.{needs}
 use Rattle.mop_header.proofs.judge.Statement.{statement}
 use Rattle.mop_header.proofs.judge.Tie as tie
@@ -14,11 +11,9 @@ use Rattle.mop_header.proofs.judge.Tie as tie
 good-for-requires : tie.Need-good-for-requires
 good-for-requires c κs = search needs
 
-fault-requires : tie.Need-fault-requires
-fault-requires c κs = search needs
-
 returns : tie.Need-returns
-returns c = c .fault .ensures ∙ sym (bad-block _ _ (sym (c .before .before .good-for .ensures) ∙ not-true _ (c .before .if1 .taken)))
+unfolding judgedRead
+returns c = sym (rw (sym (c .before .good-for .ensures) ∙ not-true _ (c .if1 .taken)))
 
 shared-slice-read-mark-of : tie.Need-shared-slice-read-mark-of
 shared-slice-read-mark-of c = search needs
@@ -29,37 +24,27 @@ mark-of-requires c κs = search needs
 has-mark-requires : tie.Need-has-mark-requires
 has-mark-requires c κs = search needs
 
-fault-requires-2 : tie.Need-fault-requires-2
-fault-requires-2 c κs = search needs
-
 returns-2 : tie.Need-returns-2
+unfolding judgedRead
 returns-2 c =
-    let good = sym (c .before .before .before .before .before .before .good-for .ensures) ∙ not-false _ (c .before .before .before .before .before .if1 .left) in
-    let mark = sym (mark-decides _ _ _ _ (c .before .before .before .mark-of .ensures) (c .before .before .has-mark .ensures)) ∙ not-true _ (c .before .if2 .taken) in
-    c .fault2 .ensures ∙ sym (bad-mark _ _ good mark)
+    let a = c .before .before .before .before .before .before .before .args in
+    let good = sym (c .before .before .before .before .before .good-for .ensures) ∙ not-false _ (c .before .before .before .before .if1 .left) in
+    let mark = sym (mark-decides (a .function) (a .control) (a .form) (a .block .now) (c .before .before .mark-of .ensures) (c .before .has-mark .ensures)) ∙ not-true _ (c .if2 .taken) in
+    sym (rw (good, mark))
 
-new-requires : tie.Need-new-requires
-new-requires c κs = search needs
+cast-t10 : tie.Need-cast-t10
+cast-t10 c = search needs
 
 returns-3 : tie.Need-returns-3
+unfolding judgedRead
 returns-3 c =
-    let a = c .before .before .before .before .before .before .before .before .args in
-    let good = sym (c .before .before .before .before .before .before .good-for .ensures) ∙ not-false _ (c .before .before .before .before .before .if1 .left) in
-    let mark = sym (mark-decides _ _ _ _ (c .before .before .before .mark-of .ensures) (c .before .before .has-mark .ensures)) ∙ not-false _ (c .before .if2 .left) in
-    ap sound (c .new .ensures ∙ ap (head (a .function) (a .control) (a .form)) (take-all maxEntries (a .block .now) (search needs)))
-    ∙ sym (judged-sound _ _ good mark)
+    let a = c .before .before .before .before .before .before .before .args in
+    let good = sym (c .before .before .before .before .before .good-for .ensures) ∙ not-false _ (c .before .before .before .before .if1 .left) in
+    let mark = sym (mark-decides (a .function) (a .control) (a .form) (a .block .now) (c .before .before .mark-of .ensures) (c .before .has-mark .ensures)) ∙ not-false _ (c .if2 .left) in
+    sym (rw (good, mark))
 
 pub judge-spec : {M : Type 1} → statement M
 judge-spec =
     tie.close
-    (tie.spec
-    good-for-requires
-    fault-requires
-    returns
-    shared-slice-read-mark-of
-    mark-of-requires
-    has-mark-requires
-    fault-requires-2
-    returns-2
-    new-requires
+    (tie.spec good-for-requires returns shared-slice-read-mark-of mark-of-requires has-mark-requires returns-2 cast-t10
     returns-3)

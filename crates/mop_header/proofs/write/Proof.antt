@@ -1,8 +1,8 @@
 -- `write`: 11, or the header and then the body.
 -- Assumes nothing.
-use Rattle.mop_header.specs.Header.{headOf}
 use mathlib.Core.Path.{sym}
 use native.Mathlib.Omega.{arith}
+use Rattle.mop_header.specs.Header.{headOf}
 use Rattle.mop_header.proofs.Writing.{telegram-short, telegram-written}
 use borrow.Author.Needs.{needs}
 use Rattle.mop_header.proofs.write.Statement.{statement}
@@ -12,41 +12,33 @@ length-requires : tie.Need-length-requires
 length-requires c κs = search needs
 
 returns : tie.Need-returns
-returns c = sym (telegram-short _ _ _ (omega arith))
+returns c = sym (telegram-short _ _ _ (omega (arith, c .before .length .ensures (c .before .before .before .before .before .args .block .now))))
 
 sub-if2 : tie.Need-sub-if2
 sub-if2 c = search needs
 
 returns-2 : tie.Need-returns-2
-returns-2 c = sym (telegram-short _ _ _ (omega arith))
+returns-2 c = sym (telegram-short _ _ _ (omega (arith, c .before .before .length .ensures (c .before .before .before .before .before .before .args .block .now))))
 
 write-header-requires : tie.Need-write-header-requires
-write-header-requires c κs = search needs
+write-header-requires c κs = (omega (arith, c .before .before .before .length .ensures (c .before .before .before .before .before .before .before .args .block .now)))
 
 put-requires : tie.Need-put-requires
 put-requires c κs = search needs
 
-add-t8 : tie.Need-add-t8
-add-t8 c = search needs
+add-t9 : tie.Need-add-t9
+add-t9 c = search needs
 
 same-length : tie.Need-same-length
 same-length c = search needs
 
 returns-3 : tie.Need-returns-3
 returns-3 c =
-    let a = c .before .before .before .before .before .before .before .before .before .before .before .before .before .args in
-    telegram-written (headOf (a .header)) (a .body .now) (a .out .now) (c .before .before .before .before .before .before .before .before .before .before .length .ensures .0) (omega arith) (c .before .before .before .before .before .before .write-header .ensures) (c .before .before .put .ensures)
+    let a = c .before .before .before .before .before .before .before .before .before .before .before .before .before .before .args in
+    let size = c .before .before .before .before .before .before .before .before .before .before .length .ensures (a .block .now) in
+    telegram-written (headOf (a .header) (a .block .now)) (a .body .now) (a .out .now) size (omega (arith, size)) (c .before .before .before .before .before .before .write-header .ensures) (c .before .before .put .ensures)
 
 pub write-spec : {M : Type 1} → statement M
 write-spec =
     tie.close
-    (tie.spec
-    length-requires
-    returns
-    sub-if2
-    returns-2
-    write-header-requires
-    put-requires
-    add-t8
-    same-length
-    returns-3)
+    (tie.spec length-requires returns sub-if2 returns-2 write-header-requires put-requires add-t9 same-length returns-3)

@@ -1,24 +1,16 @@
--- `entry_count`: the block has the first count entries, or all of them.
+-- `entry_count`: the count.
 -- Assumes nothing.
-use mathlib.Core.Path.{_≡_, sym, _∙_, ap}
-use native.Mathlib.Omega.{arith}
-use lib.ListN.{length}
-use lib.Seq.{length-take-le, take-all}
+use mathlib.Core.Path.{sym}
 use borrow.Author.Needs.{needs}
+use Rattle.mop_header.proofs.Lengths.{length-block}
 use Rattle.mop_header.proofs.Header.entry_count.Statement.{statement}
 use Rattle.mop_header.proofs.Header.entry_count.Tie as tie
 
-returns : tie.Need-returns
-returns c =
-    let h = c .before .before .args .self in
-    let long : length (h .entries) ≡ 32 = search needs in
-    (sym (ap length (take-all (h .count) (h .entries) (omega arith)) ∙ long), omega arith)
+cast-result : tie.Need-cast-result
+cast-result c = search needs
 
-returns-2 : tie.Need-returns-2
-returns-2 c =
-    let h = c .before .before .args .self in
-    let long : length (h .entries) ≡ 32 = search needs in
-    (sym (length-take-le (h .count) (h .entries) (omega arith)), omega arith)
+returns : tie.Need-returns
+returns c = λ slice. sym (length-block (c .before .args .self) slice)
 
 pub entry-count-spec : {M : Type 1} → statement M
-entry-count-spec = tie.close (tie.spec returns returns-2)
+entry-count-spec = tie.close (tie.spec cast-result returns)

@@ -1,19 +1,16 @@
--- `first`: the first entry, where the block has one.
+-- `first`: the entry at place 0.
 -- Assumes nothing.
-use mathlib.Core.Path.{sym}
-use Rattle.mop_header.proofs.Entries.{first-none, first-entry}
+use Rattle.mop_block.specs.Block.{first}
 use borrow.Author.Needs.{needs}
 use Rattle.mop_header.proofs.Header.first.Statement.{statement}
 use Rattle.mop_header.proofs.Header.first.Tie as tie
 
+entry-requires : tie.Need-entry-requires
+entry-requires c κs = search needs
+
 returns : tie.Need-returns
-returns c = sym (first-none _ _ (c .if1 .taken))
-
-element-copy-out-result : tie.Need-element-copy-out-result
-element-copy-out-result c = search needs
-
-returns-2 : tie.Need-returns-2
-returns-2 c = sym (first-entry _ _ (c .before .if1 .left))
+unfolding first
+returns c = c .entry .ensures
 
 pub first-spec : {M : Type 1} → statement M
-first-spec = tie.close (tie.spec returns element-copy-out-result returns-2)
+first-spec = tie.close (tie.spec entry-requires returns)

@@ -1,19 +1,16 @@
--- `next`: the second entry, where the block has one.
+-- `next`: the entry at place 1.
 -- Assumes nothing.
-use mathlib.Core.Path.{sym}
-use Rattle.mop_header.proofs.Entries.{next-none, next-entry}
+use Rattle.mop_block.specs.Block.{next}
 use borrow.Author.Needs.{needs}
 use Rattle.mop_header.proofs.Header.next.Statement.{statement}
 use Rattle.mop_header.proofs.Header.next.Tie as tie
 
+entry-requires : tie.Need-entry-requires
+entry-requires c κs = search needs
+
 returns : tie.Need-returns
-returns c = sym (next-none _ _ (c .if1 .taken))
-
-element-copy-out-result : tie.Need-element-copy-out-result
-element-copy-out-result c = search needs
-
-returns-2 : tie.Need-returns-2
-returns-2 c = sym (next-entry _ _ (c .before .if1 .left))
+unfolding next
+returns c = c .entry .ensures
 
 pub next-spec : {M : Type 1} → statement M
-next-spec = tie.close (tie.spec returns element-copy-out-result returns-2)
+next-spec = tie.close (tie.spec entry-requires returns)
