@@ -1,99 +1,107 @@
 -- A refusal changes nothing, and nobody but the destination changes a register.
 -- Assumes nothing.
 use mathlib.Core.Path.{_≡_, refl}
-use mathlib.Core.Bool.{Bool, true, false, not, _&&_}
+use mathlib.Core.Bool.{not}
 use mathlib.Core.List.{List}
 use mathlib.Core.Logic.{_⊎_, inl, inr}
-use Prim.Native.Nat.{ℕ, zero, suc}
-use borrow.Author.Tests.{eqb-true}
-use lib.Dec.{eqb, ltb}
+use Prim.Native.Nat.{ℕ}
+use lib.Dec.{ltb}
 use lib.ListN.{length}
-use Rattle.base.specs.Choice.{pick}
-use Rattle.base.specs.Filling.{Filling, denied, fitted}
-use Rattle.base.specs.Filling as filling
 use Rattle.base.proofs.Choice.{pick-either}
-use Rattle.registers.specs.Rows.{tableLength}
-use Rattle.mop_block.specs.Block.{isAddress, first, next}
-use Rattle.mop_header.specs.Header.{Head, telegramOf, bodyOf}
-use Rattle.mop_header.specs.Reading.{Finding, fine, fault, sound, reading}
-use Rattle.mop_header.specs.declared.Function.{Function}
-use Rattle.mop_header.specs.declared.Function.the-variants.{Request, Reply}
+use Rattle.mop_header.specs.Header.{Head, bodyOf}
+use Rattle.mop_header.specs.Reading.{Reading, sound, faulty, reading}
 use Rattle.mop_header.specs.declared.Reader.the-variants.{Station}
-use Rattle.mop_station.specs.Body.{Acceptance, accepts, rejects, judgedBody, afterWrites, replyBody}
-use Rattle.mop_station.specs.Station.{notMine, Handling, leaving, sending, relayed, relaying, replied, keptBy, answering, taking, hearing, handling}
-use Rattle.mop_station.specs.Safety.{Kept, RefusedKeepsAll, CarriesOut, OnlyDestinationWrites}
+use Rattle.mop_station.proofs.Cases.{step-either}
+use Rattle.mop_station.specs.Body.{afterWrites, replyBody}
+use Rattle.mop_station.specs.Step.{Stepped, relays, answers, notMine, refuses, Step, step, StepCall, isStation, stepping, lending}
+use Rattle.mop_station.specs.Station.{Handling, sendingBy, hearing, handling}
+use Rattle.mop_station.specs.Station as station
+use Rattle.mop_station.specs.Safety.{Kept, RefusedKeepsAll, UnlessAnswered, StepKept, StepRefusedKeepsAll, CarriesOut, StepOnlyDestinationWrites, CarriesOutTelegram, OnlyDestinationWrites}
 
--- what was written into the output, or 11 and the output as it was
-by-room : (P : Filling → Type 0) (telegram out : List ℕ) → P (denied 11 out) → P (filling.written telegram out) → P (fitted telegram out)
-unfolding fitted
-by-room P telegram out short room = pick-either P (ltb (length out) (length telegram)) short room
+-- the registers, unless it answers
+step-keeps : (own : ℕ) (h : Head) (body t : List ℕ) (room : ℕ) →
+    (let s = stepping own h body t room in UnlessAnswered (s .stepped) (s .registers ≡ t))
+step-keeps own h body t room =
+    step-either own h body t room (λ (s : Step). UnlessAnswered (s .stepped) (s .registers ≡ t)) (λ k. refl) (λ l. refl) (λ c l. tt) refl
 
-module _ (t out : List ℕ) where
-  relay-kept : (h : Head) (body : List ℕ) → Kept (relaying h body t out) t out
-  unfolding relaying sending
-  relay-kept h body =
-      by-room (λ f. Kept (leaving (sending (f .given)) t (f .output)) t out) (telegramOf (relayed (h .function) h) body) out (refl, refl) tt
+-- and the buffer for a reply's body
+lent-keeps : (s : Stepped) (after t reply : List ℕ) → UnlessAnswered s (after ≡ t) → StepKept (lending (step s after) t reply) t reply
+unfolding lending
+lent-keeps (relays h) after t reply e = (e, refl)
+lent-keeps (answers h body) after t reply e = pick-either (λ s. StepKept s t reply) (ltb (length reply) (length body)) (refl, refl) tt
+lent-keeps notMine after t reply e = (e, refl)
+lent-keeps (refuses k) after t reply e = (e, refl)
 
-  answer-kept : (v : Acceptance) (h : Head) (body : List ℕ) → Kept (answering v h body t out) t out
-  unfolding answering sending keptBy
-  answer-kept (rejects k) h body = (refl, refl)
-  answer-kept accepts h body =
-      by-room (λ f. Kept (leaving (sending (f .given)) (keptBy (f .given) (afterWrites body t) t) (f .output)) t out)
-      (telegramOf (replied h) (replyBody body (afterWrites body t))) out (refl, refl) tt
+pub step-refused-keeps-all : StepRefusedKeepsAll
+step-refused-keeps-all own h body t room reply =
+    let s = stepping own h body t room in
+    lent-keeps (s .stepped) (s .registers) t reply (step-keeps own h body t room)
 
-  take-kept : (f : Function) (n : ℕ) (h : Head) (body : List ℕ) → Kept (taking f n h body t out) t out
-  unfolding taking
-  take-kept Request zero h body = answer-kept (judgedBody body) h body
-  take-kept Request (suc n) h body = relay-kept h body
-  take-kept Reply n h body = relay-kept h body
+-- what is sent, or not
+send-keeps : (s : Stepped) (body after t out : List ℕ) → UnlessAnswered s (after ≡ t) → Kept (sendingBy s body after out) t out
+unfolding sendingBy
+send-keeps (relays h) body after t out e = tt
+send-keeps (answers h reply) body after t out e = tt
+send-keeps notMine body after t out e = (e, refl)
+send-keeps (refuses k) body after t out e = (e, refl)
 
-  hear-kept : (v : Finding) (own : ℕ) (h : Head) (telegram : List ℕ) → Kept (hearing v own h telegram t out) t out
-  unfolding hearing
-  hear-kept (fault k) own h telegram = (refl, refl)
-  hear-kept fine own h telegram =
-      pick-either (λ r. Kept r t out) (eqb (first (h .block)) own) (take-kept (h .function) _ h (bodyOf h telegram)) (refl, refl)
+hear-keeps : (r : Reading) (own : ℕ) (telegram t out : List ℕ) → Kept (hearing r own telegram t out) t out
+unfolding hearing
+hear-keeps (faulty k) own telegram t out = (refl, refl)
+hear-keeps (sound h) own telegram t out =
+    let body = bodyOf h telegram in
+    let s = stepping own h body t (length out) in
+    send-keeps (s .stepped) body (s .registers) t out (step-keeps own h body t (length out))
 
 pub refused-keeps-all : RefusedKeepsAll
 unfolding handling
 refused-keeps-all own t telegram out =
-    pick-either (λ r. Kept r t out) (not (isAddress own && eqb (length t) tableLength)) (refl, refl)
-    (hear-kept t out (reading Station telegram .finding) own (reading Station telegram .header) telegram)
+    pick-either (λ r. Kept r t out) (not (isStation own t)) (refl, refl) (hear-keeps (reading Station telegram) own telegram t out)
 
 -- who changed a register was the destination
+module _ (own : ℕ) (h : Head) (body t : List ℕ) (room : ℕ) where
+  abbrev Only : List ℕ → Type 0
+  Only after = (after ≡ t) ⊎ CarriesOut own h body t after
+
+  step-only : Only (stepping own h body t room .registers)
+  step-only = step-either own h body t room (λ (s : Step). Only (s .registers)) (λ k. inl refl) (λ l. inl refl) (λ c l. inr c) (inl refl)
+
+  lent-only : (reply : List ℕ) → Only (lending (stepping own h body t room) t reply .made .registers)
+  unfolding lending
+  lent-only reply =
+      step-either own h body t room (λ (s : Step). Only (lending s t reply .made .registers)) (λ k. inl refl) (λ l. inl refl)
+      (λ c l. pick-either (λ (x : StepCall). Only (x .made .registers)) (ltb (length reply) (length (replyBody body (afterWrites body t)))) (inl refl) (inr c)) (inl refl)
+
+pub step-only-destination-writes : StepOnlyDestinationWrites
+step-only-destination-writes = lent-only
+
+-- sending leaves the registers as the step does
+send-registers : (s : Stepped) (body t out : List ℕ) → sendingBy s body t out .registers ≡ t
+unfolding sendingBy
+send-registers (relays h) body t out = refl
+send-registers (answers h reply) body t out = refl
+send-registers notMine body t out = refl
+send-registers (refuses k) body t out = refl
+
 module _ (own : ℕ) (t telegram out : List ℕ) where
-  abbrev Only : Handling → Type 0
-  Only r = (r .registers ≡ t) ⊎ CarriesOut own t telegram (r .registers)
+  abbrev OnlyHere : Handling → Type 0
+  OnlyHere r = (r .registers ≡ t) ⊎ CarriesOutTelegram own t telegram (r .registers)
 
-  -- as the destination
-  module _ (h : Head) (order : reading Station telegram ≡ sound h) (mine : first (h .block) ≡ own) where
-    answer-only : h .function ≡ Request → next (h .block) ≡ 0 → (v : Acceptance) → judgedBody (bodyOf h telegram) ≡ v →
-        Only (answering v h (bodyOf h telegram) t out)
-    unfolding answering keptBy
-    answer-only request last (rejects k) e = inl refl
-    answer-only request last accepts e =
-        let after = afterWrites (bodyOf h telegram) t in
-        by-room (λ f. Only (leaving (sending (f .given)) (keptBy (f .given) after t) (f .output)))
-        (telegramOf (replied h) (replyBody (bodyOf h telegram) after)) out (inl refl)
-        (inr (record { head = h; order = order; request = request; mine = mine; last = last; accepted = e; all = refl }))
+  carried-by : (h : Head) → reading Station telegram ≡ sound h → {after registers : List ℕ} → registers ≡ after →
+      (after ≡ t) ⊎ CarriesOut own h (bodyOf h telegram) t after → (registers ≡ t) ⊎ CarriesOutTelegram own t telegram registers
+  carried-by h order same (inl e) = inl (rw same e)
+  carried-by h order same (inr c) = inr (record { head = h; order = order; carried = rw same c })
 
-    take-only : (f : Function) → h .function ≡ f → (n : ℕ) → next (h .block) ≡ n → Only (taking f n h (bodyOf h telegram) t out)
-    unfolding taking relaying
-    take-only Request request zero last = answer-only request last (judgedBody (bodyOf h telegram)) refl
-    take-only Request request (suc n) last = inl refl
-    take-only Reply request n last = inl refl
-
-  hear-mine : (h : Head) → reading Station telegram ≡ sound h → (b : Bool) → eqb (first (h .block)) own ≡ b →
-      Only (pick b (taking (h .function) (next (h .block)) h (bodyOf h telegram) t out) (leaving notMine t out))
-  hear-mine h order true e = take-only h order (eqb-true (first (h .block)) own e) (h .function) refl (next (h .block)) refl
-  hear-mine h order false e = inl refl
-
-  hear-only : (v : Finding) (h : Head) → reading Station telegram ≡ record { finding = v; header = h } → Only (hearing v own h telegram t out)
+  hear-only : (r : Reading) → reading Station telegram ≡ r → OnlyHere (hearing r own telegram t out)
   unfolding hearing
-  hear-only (fault k) h e = inl refl
-  hear-only fine h e = hear-mine h e (eqb (first (h .block)) own) refl
+  hear-only (faulty k) e = inl refl
+  hear-only (sound h) e =
+      let body = bodyOf h telegram in
+      let s = stepping own h body t (length out) in
+      carried-by h e (send-registers (s .stepped) body (s .registers) out) (step-only own h body t (length out))
 
 pub only-destination-writes : OnlyDestinationWrites
 unfolding handling
 only-destination-writes own t telegram out =
-    pick-either (Only own t telegram out) (not (isAddress own && eqb (length t) tableLength)) (inl refl)
-    (hear-only own t telegram out (reading Station telegram .finding) (reading Station telegram .header) refl)
+    pick-either (OnlyHere own t telegram out) (not (isStation own t)) (inl refl)
+    (hear-only own t telegram out (reading Station telegram) refl)

@@ -1,3 +1,4 @@
 pub mod Body
+pub mod Step
 pub mod Station
 pub mod Safety

@@ -1,21 +1,17 @@
 -- What a station does with a telegram.
 -- Assumes nothing.
-use Prim.Native.Nat.{ℕ, zero, suc}
-use mathlib.Core.Bool.{not, _&&_}
+use Prim.Native.Nat.{ℕ}
+use mathlib.Core.Bool.{not}
 use mathlib.Core.List.{List}
-use lib.Dec.{eqb}
 use lib.ListN.{length}
 use Rattle.base.specs.Choice.{pick}
-use Rattle.base.specs.Filling.{Given, filled, refused, fitted}
+use Rattle.base.specs.Places.{placed}
 use Rattle.refusal.specs.Numbers.{numberOf}
-use Rattle.registers.specs.Rows.{tableLength}
-use Rattle.mop_block.specs.Block.{isAddress, first, next}
-use Rattle.mop_header.specs.Header.{Head, telegramOf, bodyOf, rolledLeft, asReply, sentBack}
-use Rattle.mop_header.specs.Reading.{Finding, fine, fault, reading}
-use Rattle.mop_header.specs.declared.Function.{Function}
-use Rattle.mop_header.specs.declared.Function.the-variants.{Request, Reply}
+use Rattle.mop_header.specs.Header.{telegramOf, bodyOf}
+use Rattle.mop_header.specs.Reading.{Reading, sound, faulty, reading}
 use Rattle.mop_header.specs.declared.Reader.the-variants.{Station}
-use Rattle.mop_station.specs.Body.{Acceptance, accepts, rejects, judgedBody, afterWrites, replyBody}
+use Rattle.mop_station.specs.Step.{Stepped, relays, answers, Step, isStation, stepping}
+use Rattle.mop_station.specs.Step as step
 use Rattle.mop_station.specs.declared.StationAnswer.{StationAnswer}
 use Rattle.mop_station.specs.declared.StationAnswer.the-variants.{Sent, NotMine, Refused}
 
@@ -42,61 +38,28 @@ leaving h t out = record { handled = h; registers = t; output = out }
 abbrev pub handlingOf : StationAnswer → List ℕ → List ℕ → Handling
 handlingOf r t out = leaving (handledOf r) t out
 
--- From here on h is the header of the telegram, t the table of registers, and out the output.
+-- a telegram in the first places of the output; there is room for it
+abbrev pub sending : List ℕ → List ℕ → List ℕ → Handling
+sending telegram t out = leaving (sent (length telegram)) t (placed telegram out)
 
--- what filling the output gives is what the station gives: the telegram is sent, or 11
-unfoldable pub sending : Given → Handled
-sending (filled n) = sent n
-sending (refused k) = refuses k
+-- what the step makes of a telegram with this body, put into the output
+unfoldable pub sendingBy : Stepped → List ℕ → List ℕ → List ℕ → Handling
+sendingBy (relays h) body t out = sending (telegramOf h body) t out
+sendingBy (answers h reply) body t out = sending (telegramOf h reply) t out
+sendingBy step.notMine body t out = leaving notMine t out
+sendingBy (step.refuses k) body t out = leaving (refuses k) t out
 
--- a relay rolls a request left; a reply it sends back. But for the mark of a reply all the rest of the header stays, the
--- control byte too, and neither body nor registers are looked at
-unfoldable pub relayed : Function → Head → Head
-relayed Request h = rolledLeft h
-relayed Reply h = sentBack h
+-- the step, with the room of the output, and then the telegram in the output
+abbrev pub taking : Step → List ℕ → List ℕ → Handling
+taking s body out = sendingBy (s .stepped) body (s .registers) out
 
-unfoldable pub relaying : Head → List ℕ → List ℕ → List ℕ → Handling
-relaying h body t out =
-    let filling = fitted (telegramOf (relayed (h .function) h) body) out in
-    leaving (sending (filling .given)) t (filling .output)
+-- a fault of the header is refused by everybody
+unfoldable pub hearing : Reading → ℕ → List ℕ → List ℕ → List ℕ → Handling
+hearing (faulty k) own telegram t out = leaving (refuses k) t out
+hearing (sound h) own telegram t out = let body = bodyOf h telegram in taking (stepping own h body t (length out)) body out
 
--- the header of a destination's reply
-unfoldable pub replied : Head → Head
-replied h = sentBack (asReply h)
-
--- registers change only with a reply that is sent
-unfoldable pub keptBy : Given → List ℕ → List ℕ → List ℕ
-keptBy (filled n) after t = after
-keptBy (refused k) after t = t
-
--- a destination carries out the body that it accepts: all the writes, then the reads
-unfoldable pub answering : Acceptance → Head → List ℕ → List ℕ → List ℕ → Handling
-answering (rejects k) h body t out = leaving (refuses k) t out
-answering accepts h body t out =
-    let after = afterWrites body t in
-    let filling = fitted (telegramOf (replied h) (replyBody body after)) out in
-    leaving (sending (filling .given)) (keptBy (filling .given) after t) (filling .output)
-
--- a telegram for this station: it is the destination of a request if the next entry is 00, and else a relay; a reply it only
--- relays
-unfoldable pub taking : Function → ℕ → Head → List ℕ → List ℕ → List ℕ → Handling
-taking Request zero h body t out = answering (judgedBody body) h body t out
-taking Request (suc a) h body t out = relaying h body t out
-taking Reply n h body t out = relaying h body t out
-
--- a fault of the header is refused by everybody; else the first entry says whose the telegram is, and to all others it is
--- "not mine"
-unfoldable pub hearing : Finding → ℕ → Head → List ℕ → List ℕ → List ℕ → Handling
-hearing (fault k) own h telegram t out = leaving (refuses k) t out
-hearing fine own h telegram t out =
-    pick (eqb (first (h .block)) own)
-    (taking (h .function) (next (h .block)) h (bodyOf h telegram) t out)
-    (leaving notMine t out)
-
--- the call. The order: 1 here; 12 and 2 to 6 by `reading`; "not mine" by `hearing`; 7 to 10 by `judgedBody`, at the destination;
--- 11 by `fitted`
+-- the call. The order: 1 here; 12 and 2 to 6 by `reading`; "not mine", 7 to 10 and 11 by `stepping`
 unfoldable pub handling : ℕ → List ℕ → List ℕ → List ℕ → Handling
 handling own t telegram out =
-    let read = reading Station telegram in
-    pick (not (isAddress own && eqb (length t) tableLength)) (leaving (refuses 1) t out)
-    (hearing (read .finding) own (read .header) telegram t out)
+    pick (not (isStation own t)) (leaving (refuses 1) t out)
+    (hearing (reading Station telegram) own telegram t out)

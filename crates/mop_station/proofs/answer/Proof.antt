@@ -1,8 +1,8 @@
 -- `answer`: the refusal of the body, or what is carried out.
 -- Assumes nothing.
-use mathlib.Core.Path.{sym, _∙_, ap}
+use Rattle.mop_station.specs.Step.{answering, lending}
 use Rattle.mop_station.specs.Body.{acceptanceOf}
-use Rattle.mop_station.specs.Station.{answering}
+use mathlib.Core.Path.{sym, _∙_, ap}
 use borrow.Author.Needs.{needs}
 use Rattle.mop_station.proofs.answer.Statement.{statement}
 use Rattle.mop_station.proofs.answer.Tie as tie
@@ -20,7 +20,7 @@ carry-out-requires : tie.Need-carry-out-requires
 carry-out-requires c κs = (sym (c .before .before .before .before .judge-body .ensures) ∙ ap acceptanceOf (c .before .before .enum-told .given .1), search needs)
 
 returns : tie.Need-returns
-unfolding answering
+unfolding answering lending
 returns c = rw (sym (c .before .before .before .judge-body .ensures) ∙ ap acceptanceOf (c .before .r .given .1))
 
 same-length : tie.Need-same-length
@@ -35,12 +35,4 @@ returns-2 c = rw (sym (c .before .before .before .before .before .before .before
 pub answer-spec : {M : Type 1} → statement M
 answer-spec =
     tie.close
-    (tie.spec
-    judge-body-requires
-    enum-known-r
-    enum-told
-    carry-out-requires
-    returns
-    same-length
-    same-length-2
-    returns-2)
+    (tie.spec judge-body-requires enum-known-r enum-told carry-out-requires returns same-length same-length-2 returns-2)

@@ -1,86 +1,64 @@
--- `carry_out`: 11, or the registers written and the reply sent.
+-- `carry_out`: 11, or the registers written and the body of the reply put.
 -- Assumes nothing.
-use lib.ListN.{length}
-use Rattle.registers.specs.Rows.{tableLength}
-use mathlib.Core.Path.{_≡_, sym, _∙_, ap}
-use native.Mathlib.Omega.{arith}
-use native.Mathlib.Nat.{sub-zero}
-use Rattle.registers.proofs.Runs.{run-bound}
-use Rattle.mop_header.specs.Header.{headOf, headerLength}
-use Rattle.mop_body.specs.Body.{readStart, readCount}
-use Rattle.mop_station.specs.Body.{accepts, judgedBody}
+use Rattle.mop_station.proofs.Answers.{length-reply, read-room, carried-short, carried-no-place, carried-answered}
+use Rattle.mop_station.proofs.Steps.{short-by, room-by}
 use Rattle.mop_station.proofs.Bodies.{accepted}
-use Rattle.mop_station.proofs.Answers.{write-room, read-room, answer-short, answer-sent}
+use Rattle.mop_station.specs.Step.{replied}
+use Rattle.mop_station.specs.Body.{afterWrites}
+use Rattle.mop_header.proofs.Turns.{at-slice}
+use Rattle.mop_header.specs.Header.{sentBack}
+use native.Mathlib.Omega.{arith}
+use mathlib.Core.Path.{refl, sym, _∙_, ap}
 use borrow.Author.Needs.{needs}
 use Rattle.mop_station.proofs.carry_out.Statement.{statement}
 use Rattle.mop_station.proofs.carry_out.Tie as tie
 
-reply-header-requires : tie.Need-reply-header-requires
-reply-header-requires c κs = search needs
+as-reply-requires : tie.Need-as-reply-requires
+as-reply-requires c κs = search needs
+
+sent-back-requires : tie.Need-sent-back-requires
+sent-back-requires c κs = search needs
 
 shared-slice-read-count : tie.Need-shared-slice-read-count
-shared-slice-read-count c =
-    let body = c .before .before .before .before .before .args .body .now in
-    let good-body : judgedBody body ≡ accepts = search needs in
-    let a = accepted body good-body in
-    omega (arith, a .long)
+shared-slice-read-count c = omega (arith, accepted (c .before .before .before .before .before .before .before .args .body .now) (c .before .before .before .before .before .before .before .pre .0) .long)
 
 cast-n : tie.Need-cast-n
-cast-n c = omega (arith, c .shared-slice-known2 .given 2)
+cast-n c = omega (arith, c .shared-slice-known3 .given 2)
 
 mul-n : tie.Need-mul-n
-mul-n c = omega (arith, c .shared-slice-known2 .given 2)
+mul-n c = omega (arith, c .shared-slice-known3 .given 2)
 
 add-n : tie.Need-add-n
-add-n c = omega (arith, c .shared-slice-known2 .given 2)
+add-n c = omega (arith, c .shared-slice-known3 .given 2)
 
-length-requires : tie.Need-length-requires
-length-requires c κs = search needs
-
-add-if1 : tie.Need-add-if1
-add-if1 c = omega (arith, c .before .shared-slice-known2 .given 2)
+has-room-requires : tie.Need-has-room-requires
+has-room-requires c κs = search needs
 
 returns : tie.Need-returns
+unfolding replied
 returns c =
-    let body = c .before .before .before .before .before .before .before .args .body .now in
-    let good-body : judgedBody body ≡ accepts = search needs in
-    let a = accepted body good-body in
-    let s = c .before .before .before .before .before .before .before .args in
-    let size = c .before .length .ensures .0 ∙ ap headerLength (c .before .before .before .reply-header .ensures) in
-    sym (answer-short body a (headOf (s .header)) (s .registers .now) (s .out .now) (omega (arith, size)))
+    let s = c .before .before .before .before .before .before .before .before .before in
+    let same = c .before .before .before .sent-back .ensures ∙ ap sentBack (at-slice (c .before .before .before .before .as-reply .ensures) (s .args .block .now)) in
+    let size = sym (length-reply (s .args .body .now) (afterWrites (s .args .body .now) (s .args .registers .now))) in
+    carried-short _ (accepted _ (s .pre .0)) _ _ _ _ same (short-by _ _ _ size (c .before .has-room .ensures (s .args .block .now)) (c .if1 .taken))
+
+returns-2 : tie.Need-returns-2
+unfolding replied
+returns-2 c =
+    let s = c .before .before .before .before .before .before .before .before .before .before in
+    let same = c .before .before .before .before .sent-back .ensures ∙ ap sentBack (at-slice (c .before .before .before .before .before .as-reply .ensures) (s .args .block .now)) in
+    let size = sym (length-reply (s .args .body .now) (afterWrites (s .args .body .now) (s .args .registers .now))) in
+    carried-no-place _ (accepted _ (s .pre .0)) _ _ _ _ same (room-by _ _ _ size (c .before .before .has-room .ensures (s .args .block .now)) (c .before .if1 .left)) (c .if2 .taken)
 
 write-registers-requires : tie.Need-write-registers-requires
-write-registers-requires c κs =
-    let body = c .before .before .before .before .before .before .before .before .args .body .now in
-    let good-body : judgedBody body ≡ accepts = search needs in
-    let a = accepted body good-body in
-    (omega (arith, a .long), omega (arith, write-room body a))
+write-registers-requires c κs = omega (arith, accepted (c .before .before .before .before .before .before .before .before .before .before .before .args .body .now) (c .before .before .before .before .before .before .before .before .before .before .before .pre .0) .long)
 
-reply-body-requires : tie.Need-reply-body-requires
-reply-body-requires c κs =
-    let body = c .before .before .before .before .before .before .before .before .before .before .before .before .args .body .now in
-    let good-body : judgedBody body ≡ accepts = search needs in
-    let a = accepted body good-body in
-    (omega (arith, a .long), (run-bound (readStart body) (readCount body) (a .readable), omega (arith, read-room body a, c .before .before .before .write-registers .kept .1 .0)))
-
-sub-write : tie.Need-sub-write
-sub-write c = search needs
-
-part-write-start : tie.Need-part-write-start
-part-write-start c = search needs
-
-part-write-end : tie.Need-part-write-end
-part-write-end c =
-    let body = c .before .before .before .before .before .before .before .before .before .before .before .before .before .before .args .body .now in
-    let good-body : judgedBody body ≡ accepts = search needs in
-    let a = accepted body good-body in
-    omega (arith, run-bound (readStart body) (readCount body) (a .readable))
-
-write-requires : tie.Need-write-requires
-write-requires c κs = search needs
-
-handled-requires : tie.Need-handled-requires
-handled-requires c κs = search needs
+put-reply-requires : tie.Need-put-reply-requires
+put-reply-requires c κs =
+    let at-write-registers = c .before .before .before .before in
+    let s = at-write-registers .before .before .before .before .before .before .before .before .before .before .before .before in
+    let a = accepted (s .args .body .now) (s .pre .0) in
+    (omega (arith, a .long), (omega (arith, read-room (s .args .body .now) a, s .pre .1, at-write-registers .write-registers .kept .1 .0), omega arith))
 
 same-length : tie.Need-same-length
 same-length c = search needs
@@ -88,37 +66,18 @@ same-length c = search needs
 same-length-2 : tie.Need-same-length-2
 same-length-2 c = search needs
 
-returns-2 : tie.Need-returns-2
-returns-2 c =
-    let body = c .before .before .before .before .before .before .before .before .before .before .before .before .before .before .before .before .before .before .before .before .args .body .now in
-    let good-body : judgedBody body ≡ accepts = search needs in
-    let a = accepted body good-body in
-    let s = c .before .before .before .before .before .before .before .before .before .before .before .before .before .before .before .before .before .before .before .before .args in
-    let size = c .before .before .before .before .before .before .before .before .before .before .before .before .before .before .length .ensures .0 ∙ ap headerLength (c .before .before .before .before .before .before .before .before .before .before .before .before .before .before .before .before .reply-header .ensures) in
-    let long : length (s .registers .now) ≡ tableLength = search needs in
-    let sent = rw (c .before .before .before .before .before .before .before .before .before .before .before .before .before .before .before .before .reply-header .ensures, sub-zero) at (c .before .before .before .write .ensures) in
-    rw (c .handled .ensures)
-    (answer-sent body a (headOf (s .header)) (s .registers .now) (s .out .now) long (omega (arith, size)) (c .before .before .before .before .before .before .before .before .before .before .before .write-registers .ensures) (c .before .before .before .before .before .before .before .reply-body .ensures) sent)
+returns-3 : tie.Need-returns-3
+unfolding replied
+returns-3 c =
+    let at-if2 = c .before .before .before .before .before .before .before .before .before in
+    let s = at-if2 .before .before .before .before .before .before .before .before .before .before in
+    let same = at-if2 .before .before .before .before .sent-back .ensures ∙ ap sentBack (at-slice (at-if2 .before .before .before .before .before .as-reply .ensures) (s .args .block .now)) in
+    let size = sym (length-reply (s .args .body .now) (afterWrites (s .args .body .now) (s .args .registers .now))) in
+    let room = room-by _ _ _ size (at-if2 .before .before .has-room .ensures (s .args .block .now)) (at-if2 .before .if1 .left) in
+    carried-answered _ (accepted _ (s .pre .0)) _ _ _ _ same room (s .pre .1) refl (at-if2 .if2 .left) (c .before .before .before .before .before .before .before .write-registers .ensures) (c .before .before .put-reply .ensures)
 
 pub carry-out-spec : {M : Type 1} → statement M
 carry-out-spec =
     tie.close
-    (tie.spec
-    reply-header-requires
-    shared-slice-read-count
-    cast-n
-    mul-n
-    add-n
-    length-requires
-    add-if1
-    returns
-    write-registers-requires
-    reply-body-requires
-    sub-write
-    part-write-start
-    part-write-end
-    write-requires
-    handled-requires
-    same-length
-    same-length-2
-    returns-2)
+    (tie.spec as-reply-requires sent-back-requires shared-slice-read-count cast-n mul-n add-n has-room-requires returns
+    returns-2 write-registers-requires put-reply-requires same-length same-length-2 returns-3)

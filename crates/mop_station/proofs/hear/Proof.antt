@@ -1,30 +1,38 @@
--- `hear`: by the first entry; the body is what stands behind the header.
+-- `hear`: the block, and the body behind the header.
 -- Assumes nothing.
-use mathlib.Core.Path.{sym, _∙_}
+use Rattle.mop_station.specs.Station.{hearing}
+use Rattle.mop_header.proofs.Lengths.{start-within}
+use Rattle.mop_header.specs.Header.{blockStart, bodyOf}
 use Rattle.base.proofs.Places.{take-rest}
-use Rattle.mop_header.specs.Header.{headOf, headerLength, bodyOf}
-use Rattle.mop_station.proofs.Telegrams.{for-another, for-this}
+use lib.ListN.{drop}
+use native.Mathlib.Omega.{arith}
 use borrow.Author.Needs.{needs}
 use Rattle.mop_station.proofs.hear.Statement.{statement}
 use Rattle.mop_station.proofs.hear.Tie as tie
 
-first-requires : tie.Need-first-requires
-first-requires c κs = search needs
-
-returns : tie.Need-returns
-returns c = sym (for-another _ _ _ _ _ (λ e. c .if1 .taken (c .before .first .ensures ∙ e)))
-
 length-requires : tie.Need-length-requires
 length-requires c κs = search needs
 
+block-start-requires : tie.Need-block-start-requires
+block-start-requires c κs = search needs
+
 sub-take-telegram : tie.Need-sub-take-telegram
-sub-take-telegram c = search needs
+sub-take-telegram c = omega (arith, start-within (c .before .before .before .before .before .args .header) (drop (blockStart (c .before .before .before .before .before .args .header .form)) (c .before .before .before .before .before .args .telegram .now)) (c .block-start .ensures), c .before .before .before .before .before .pre)
 
 part-take-telegram-start : tie.Need-part-take-telegram-start
-part-take-telegram-start c = search needs
+part-take-telegram-start c = omega (arith, start-within (c .before .before .before .before .before .args .header) (drop (blockStart (c .before .before .before .before .before .args .header .form)) (c .before .before .before .before .before .args .telegram .now)) (c .block-start .ensures), c .before .before .before .before .before .pre)
 
 part-take-telegram-end : tie.Need-part-take-telegram-end
 part-take-telegram-end c = search needs
+
+sub-take-telegram-2 : tie.Need-sub-take-telegram-2
+sub-take-telegram-2 c = omega (arith, c .before .before .length .ensures (drop (blockStart (c .before .before .before .before .before .before .args .header .form)) (c .before .before .before .before .before .before .args .telegram .now)), c .before .before .before .before .before .before .pre)
+
+part-take-telegram-start-2 : tie.Need-part-take-telegram-start-2
+part-take-telegram-start-2 c = omega (arith, c .before .before .length .ensures (drop (blockStart (c .before .before .before .before .before .before .args .header .form)) (c .before .before .before .before .before .before .args .telegram .now)), c .before .before .before .before .before .before .pre)
+
+part-take-telegram-end-2 : tie.Need-part-take-telegram-end-2
+part-take-telegram-end-2 c = search needs
 
 take-telegram-requires : tie.Need-take-telegram-requires
 take-telegram-requires c κs = search needs
@@ -35,24 +43,16 @@ same-length c = search needs
 same-length-2 : tie.Need-same-length-2
 same-length-2 c = search needs
 
-returns-2 : tie.Need-returns-2
-unfolding bodyOf
-returns-2 c =
+returns : tie.Need-returns
+unfolding hearing bodyOf
+returns c =
     let a = c .before .before .before .before .before .before .before .before .before .before .before .before .before .before .args in
-    let taken = rw (c .before .before .before .before .before .before .before .before .length .ensures .0, take-rest (headerLength (headOf (a .header))) (a .telegram .now)) at (c .before .before .before .before .take-telegram .ensures) in
-    taken ∙ sym (for-this _ _ _ _ _ (sym (c .before .before .before .before .before .before .before .before .before .before .first .ensures) ∙ c .before .before .before .before .before .before .before .before .before .if1 .left))
+    let slice = drop (blockStart (a .header .form)) (a .telegram .now) in
+    (rw (take-rest (c .before .before .before .before .before .before .before .before .before .block-start .result) (a .telegram .now), take-rest (c .before .before .before .before .before .before .before .before .before .before .length .result) (a .telegram .now), c .before .before .before .before .before .before .before .before .before .block-start .ensures, c .before .before .before .before .before .before .before .before .before .before .length .ensures slice) at (c .before .before .before .before .take-telegram .ensures))
 
 pub hear-spec : {M : Type 1} → statement M
 hear-spec =
     tie.close
-    (tie.spec
-    first-requires
-    returns
-    length-requires
-    sub-take-telegram
-    part-take-telegram-start
-    part-take-telegram-end
-    take-telegram-requires
-    same-length
-    same-length-2
-    returns-2)
+    (tie.spec length-requires block-start-requires sub-take-telegram part-take-telegram-start part-take-telegram-end
+    sub-take-telegram-2 part-take-telegram-start-2 part-take-telegram-end-2 take-telegram-requires same-length
+    same-length-2 returns)

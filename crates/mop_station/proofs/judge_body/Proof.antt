@@ -65,21 +65,7 @@ returns-3 c =
 pub judge-body-spec : {M : Type 1} → statement M
 judge-body-spec =
     tie.close
-    (tie.spec
-    returns
-    shared-slice-read-wcount
-    cast-if2
-    mul-if2
-    add-if2
-    returns-2
-    shared-slice-read-word-of
-    shared-slice-read-word-of-2
-    word-of-requires
-    shared-slice-read-word-of-3
-    shared-slice-read-word-of-4
-    word-of-requires-2
-    shared-slice-read-judge-runs
-    part-judge-runs-start
-    part-judge-runs-end
-    judge-runs-requires
+    (tie.spec returns shared-slice-read-wcount cast-if2 mul-if2 add-if2 returns-2 shared-slice-read-word-of
+    shared-slice-read-word-of-2 word-of-requires shared-slice-read-word-of-3 shared-slice-read-word-of-4
+    word-of-requires-2 shared-slice-read-judge-runs part-judge-runs-start part-judge-runs-end judge-runs-requires
     returns-3)

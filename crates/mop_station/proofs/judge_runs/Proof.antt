@@ -48,13 +48,5 @@ returns-5 c =
 pub judge-runs-spec : {M : Type 1} → statement M
 judge-runs-spec =
     tie.close
-    (tie.spec
-    run-exists-requires
-    returns
-    run-exists-requires-2
-    returns-2
-    run-may-write-requires
-    returns-3
-    run-takes-requires
-    returns-4
-    returns-5)
+    (tie.spec run-exists-requires returns run-exists-requires-2 returns-2 run-may-write-requires returns-3
+    run-takes-requires returns-4 returns-5)

@@ -1,9 +1,8 @@
 -- `relayed_header`: by the function.
 -- Assumes nothing.
-use mathlib.Core.Path.{sym, _∙_, ap}
-use Rattle.mop_header.specs.Header.{headOf}
-use Rattle.mop_header.specs.declared.Function.{Function}
-use Rattle.mop_station.specs.Station.{relayed}
+use Rattle.mop_station.specs.Step.{relayed}
+use Rattle.mop_header.proofs.Turns.{at-slice}
+use mathlib.Core.Path.{sym, _∙_}
 use borrow.Author.Needs.{needs}
 use Rattle.mop_station.proofs.relayed_header.Statement.{statement}
 use Rattle.mop_station.proofs.relayed_header.Tie as tie
@@ -22,20 +21,12 @@ sent-back-requires c κs = search needs
 
 returns : tie.Need-returns
 unfolding relayed
-returns c = c .rolled-left .ensures ∙ sym (ap (λ (f : Function). relayed f (headOf (c .before .before .before .args .header))) (c .before .enum-told .given .1))
+returns c = at-slice (c .rolled-left .ensures) (c .before .before .before .before .args .block .now) ∙ sym (rw (c .before .enum-told .given .1))
 
 returns-2 : tie.Need-returns-2
 unfolding relayed
-returns-2 c =
-    c .sent-back .ensures ∙ sym (ap (λ (f : Function). relayed f (headOf (c .before .before .before .args .header))) (c .before .enum-told2 .given .1))
+returns-2 c = c .sent-back .ensures ∙ sym (rw (c .before .enum-told2 .given .1))
 
 pub relayed-header-spec : {M : Type 1} → statement M
 relayed-header-spec =
-    tie.close
-    (tie.spec
-    enum-told
-    rolled-left-requires
-    enum-told-2
-    sent-back-requires
-    returns
-    returns-2)
+    tie.close (tie.spec enum-told rolled-left-requires enum-told-2 sent-back-requires returns returns-2)

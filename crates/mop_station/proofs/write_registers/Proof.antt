@@ -1,8 +1,8 @@
 -- `write_registers`: the values are stored from the place of the write start on.
 -- Assumes nothing.
-use mathlib.Core.Path.{_∙_, ap}
-use Rattle.base.proofs.Places.{take-rest}
 use Rattle.registers.specs.Rows.{placeOf}
+use Rattle.base.proofs.Places.{take-rest}
+use mathlib.Core.Path.{_∙_, ap}
 use borrow.Author.Needs.{needs}
 use Rattle.mop_station.proofs.write_registers.Statement.{statement}
 use Rattle.mop_station.proofs.write_registers.Tie as tie
@@ -32,9 +32,7 @@ part-store-words-end : tie.Need-part-store-words-end
 part-store-words-end c = search needs
 
 store-words-requires : tie.Need-store-words-requires
-store-words-requires c κs =
-    let place = c .before .before .place-of .ensures ∙ ap placeOf (c .before .before .before .word-of .ensures) in
-    rw (take-rest 6 (c .before .before .before .before .before .before .before .before .args .body .now), place) (search needs)
+store-words-requires c κs = search needs
 
 same-length : tie.Need-same-length
 same-length c = search needs
@@ -47,15 +45,5 @@ returns c =
 pub write-registers-spec : {M : Type 1} → statement M
 write-registers-spec =
     tie.close
-    (tie.spec
-    shared-slice-read-word-of
-    shared-slice-read-word-of-2
-    word-of-requires
-    cast-place-of
-    place-of-requires
-    sub-store-words
-    part-store-words-start
-    part-store-words-end
-    store-words-requires
-    same-length
-    returns)
+    (tie.spec shared-slice-read-word-of shared-slice-read-word-of-2 word-of-requires cast-place-of place-of-requires
+    sub-store-words part-store-words-start part-store-words-end store-words-requires same-length returns)
