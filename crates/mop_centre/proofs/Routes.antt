@@ -9,16 +9,17 @@ use native.Mathlib.Numerals.{add-one}
 use native.Mathlib.Omega.{arith}
 use borrow.Author.Tests.{leb-true, le-leb, lt-leb}
 use lib.Dec.{leb}
-use lib.ListN.{length, getD, take, drop, set, length-take, length-replicate}
+use lib.ListN.{length, getD, take, drop, set, length-replicate}
 use lib.Seq.{sets, length-sets, take-all, take-append-add}
 use Rattle.base.specs.Places.{placed}
 use Rattle.base.proofs.Places.{sets-placed}
 use Rattle.mop_block.specs.Block.{distinctAddresses, stations}
 use Rattle.mop_block.specs.Zipper.{zeros}
 use Rattle.mop_block.proofs.Scan.{zero-next, station-next, stations-end}
-use Rattle.mop_header.specs.Header.{head, maxEntries, newControl}
+use Rattle.mop_header.specs.Header.{head, entries, maxEntries, newControl}
 use Rattle.mop_header.specs.declared.Function.the-variants.{Request}
 use Rattle.mop_header.specs.declared.Form.the-variants.{Standard, Extended}
+use Rattle.mop_header.proofs.Turns.{entries-take}
 use Rattle.mop_centre.specs.Request.{maxRoute, goodRoute, requestHead}
 use Rattle.mop_centre.specs.Reply.{routePlaces}
 
@@ -83,11 +84,11 @@ filled-up route m size h l =
     subst (λ (s : ℕ). take m (sets (zeros s) 0 route) ≡ route ++ zeros k) all
     (subst (λ (x : ℕ). take x (sets (zeros (length route + (k + (size - m)))) 0 route) ≡ route ++ zeros k) first (placed-zeros route k (size - m)))
 
--- so many entries of it are all in a header's block
-pub block-filled : (route : List ℕ) {entries : List ℕ} (m : ℕ) → entries ≡ sets (zeros maxEntries) 0 route → length route ≤ m → m ≤ maxEntries →
-    take maxEntries (take m entries) ≡ route ++ zeros (m - length route)
-block-filled route {entries} m e h l =
-    take-all maxEntries (take m entries) (omega (arith, length-take m entries)) ∙ ap (take m) e ∙ filled-up route m maxEntries h l
+-- so many entries of it are a header's block
+pub block-filled : (route : List ℕ) (m : ℕ) → length route ≤ m → m ≤ maxEntries → entries m (sets (zeros maxEntries) 0 route) ≡ route ++ zeros (m - length route)
+block-filled route m h l =
+    entries-take m (sets (zeros maxEntries) 0 route) (omega (arith, length-sets (zeros maxEntries) 0 route, length-replicate {A = ℕ} maxEntries 0))
+    ∙ filled-up route m maxEntries h l
 
 -- the stations of a block, one after the other
 module _ (b : List ℕ) (i : ℕ) (route : List ℕ) (place : ℕ) {whole : List ℕ} (k : sets route place (stations (drop i b)) ≡ whole) where

@@ -12,7 +12,7 @@ use Rattle.refusal.specs.Numbers.{numberOf}
 use Rattle.mop_block.specs.Block.{stations, first}
 use Rattle.mop_block.specs.Zipper.{zeros}
 use Rattle.mop_header.specs.Header.{Head, headerLength, bodyOf}
-use Rattle.mop_header.specs.Reading.{Finding, fine, fault, reading}
+use Rattle.mop_header.specs.Reading.{Reading, sound, faulty, reading}
 use Rattle.mop_header.specs.declared.Reader.the-variants.{Centre}
 use Rattle.mop_body.specs.Body.{readStart, readCount, valueBytes}
 use Rattle.mop_centre.specs.Request.{maxRoute}
@@ -36,26 +36,28 @@ unfoldable pub judgedReply : List ℕ → Receipt
 judgedReply body = pick (not (eqb (length body) (3 + 2 * readCount body))) (refuses 7) accepted
 
 -- a fault of the header is refused; a telegram whose first entry is not 00 is for a station, and "not mine"; then the body
-unfoldable pub receiving : Finding → Head → List ℕ → Receipt
-receiving (fault k) h telegram = refuses k
-receiving fine h telegram = pick (not (eqb (first (h .block)) 0)) notMine (judgedReply (bodyOf h telegram))
+unfoldable pub receiving : Reading → List ℕ → Receipt
+receiving (faulty k) telegram = refuses k
+receiving (sound h) telegram = pick (not (eqb (first (h .block)) 0)) notMine (judgedReply (bodyOf h telegram))
 
 -- the whole verdict: 12 and 2 to 6 by `reading`, then "not mine", then 7
 unfoldable pub replyReceipt : List ℕ → Receipt
-replyReceipt telegram = receiving (reading Centre telegram .finding) (reading Centre telegram .header) telegram
+replyReceipt telegram = receiving (reading Centre telegram) telegram
 
--- what is told of a reply: the verdict, the route in its places, read start and read count
+-- what is told of a reply: the verdict, the route in its places, read start and read count, and the place where the bytes of the
+-- values begin
 pub record Answer : Type 0 where
   pub receipt : Receipt
   pub route : List ℕ
   pub start : ℕ
   pub count : ℕ
+  pub place : ℕ
 
-abbrev pub told : Receipt → List ℕ → ℕ → ℕ → Answer
-told receipt route start count = record { receipt = receipt; route = route; start = start; count = count }
+abbrev pub told : Receipt → List ℕ → ℕ → ℕ → ℕ → Answer
+told receipt route start count place = record { receipt = receipt; route = route; start = start; count = count; place = place }
 
 abbrev pub answerOf : ReplyRead → Answer
-answerOf r = told (receiptOf (r .verdict)) (r .route) (r .start) (r .count)
+answerOf r = told (receiptOf (r .verdict)) (r .route) (r .start) (r .count) (r .«values_at»)
 
 -- where in the telegram a stretch of it begins: at a place; or anywhere, which is left free
 pub data Place : Type 0 where
@@ -75,7 +77,7 @@ routePlaces route = route ++ zeros (maxRoute - length route)
 -- an accepted reply with these stations, this run, these bytes of values, and the place where they begin
 abbrev pub acceptedReading : List ℕ → ℕ → ℕ → List ℕ → ℕ → ReplyReading
 acceptedReading route start count bytes place = record {
-  answer = told accepted (routePlaces route) start count;
+  answer = told accepted (routePlaces route) start count place;
   values = bytes;
   begins = at place;
 }
@@ -87,7 +89,7 @@ readOut h body = acceptedReading (stations (h .block)) (readStart body) (readCou
 -- any other: zeros, and an empty stretch
 unfoldable pub unread : Receipt → ReplyReading
 unread r = record {
-  answer = told r (zeros maxRoute) 0 0;
+  answer = told r (zeros maxRoute) 0 0 0;
   values = [];
   begins = anywhere;
 }
@@ -98,9 +100,14 @@ opened accepted h telegram = readOut h (bodyOf h telegram)
 opened notMine h telegram = unread notMine
 opened (refuses k) h telegram = unread (refuses k)
 
+-- by what reading the header gave
+unfoldable pub openedBy : Reading → List ℕ → ReplyReading
+openedBy (faulty k) telegram = unread (refuses k)
+openedBy (sound h) telegram = opened (receiving (sound h) telegram) h telegram
+
 -- both calls are of this: one gives the answer, the other the stretch
 unfoldable pub replyReading : List ℕ → ReplyReading
-replyReading telegram = opened (replyReceipt telegram) (reading Centre telegram .header) telegram
+replyReading telegram = openedBy (reading Centre telegram) telegram
 
 -- a slice that is lent from the telegram's own bytes, and begins so many behind the first of them. A pointer is a block of memory,
 -- and an offset in it in bytes

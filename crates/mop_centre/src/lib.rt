@@ -2,23 +2,25 @@
 use mop_header::Form;
 use mop_header::Function;
 use mop_header::Header;
+use mop_header::HeaderRead;
 use mop_header::MARK;
 use mop_header::NEW_CONTROL;
 use mop_header::Reader;
-use mop_header::Verdict;
 use refusal::Refusal;
 use refusal::WriteAnswer;
 ghost use mathlib.Core.Path.{_≡_};
 ghost use Prim.Native.Nat.{_+_, _*_, _≤_};
-ghost use lib.ListN.{length, take};
+ghost use lib.Dec.{eqb};
+ghost use lib.ListN.{length, take, drop};
 ghost use Rattle.refusal.specs.Writing.{fillingOf};
 ghost use Rattle.mop_block.specs.Block.{stations};
-ghost use Rattle.mop_header.specs.Header.{headOf, headerLength, bodyOf};
-ghost use Rattle.mop_header.specs.Reading.{fine, reading};
+ghost use Rattle.mop_block.specs.Zipper.{zeros};
+ghost use Rattle.mop_header.specs.Header.{headOf, blockStart, maxEntries};
+ghost use Rattle.mop_header.specs.Reading.{sound, reading};
 ghost use Rattle.mop_header.specs.declared.Reader.the-variants.{Centre};
-ghost use Rattle.mop_body.specs.Body.{requestBody};
+ghost use Rattle.mop_body.specs.Body.{readCount, requestBody};
 ghost use Rattle.mop_centre.specs.Request.{maxRoute, maxRun, goodRoute, requestHead, requesting};
-ghost use Rattle.mop_centre.specs.Reply.{receiptOf, judgedReply, receiving, replyReceipt, answerOf, routePlaces, readOut, unread, replyReading, Begins};
+ghost use Rattle.mop_centre.specs.Reply.{receiptOf, answerOf, routePlaces, readOut, unread, replyReading, Begins};
 
 // The most stations of a route.
 pub const MAX_ROUTE: usize = 31;
@@ -41,6 +43,8 @@ pub struct ReplyRead {
     // The number of the first register that was read, and how many were.
     pub start: u16,
     pub count: u8,
+    // The place in the telegram where the bytes of the values begin.
+    pub values_at: usize,
 }
 
 // Whether bytes are a route.
@@ -56,24 +60,23 @@ fn is_route(route: &[u8]) -> bool
     mop_block::distinct_addresses(route)
 }
 
-// The header of a request: a standard one for up to three stations, else an extended one.
-fn request_header(route: &[u8]) -> Header
+// Room for the entries of the longest block of a request: a route, and a 00.
+const REQUEST_BLOCK: usize = MAX_ROUTE + 1;
+
+// The header of a request, beside a block of 00s that the route is put into: a standard one for up to three stations, else an
+// extended one.
+fn request_header(route: &[u8], block: &mut [u8]) -> Header
     requires { ⌜ length (now route) ≤ maxRoute ⌝ }
-    ensures { λ r. ⌜ headOf r ≡ requestHead (now (route .entry)) ⌝ }
+    requires { ⌜ now block ≡ zeros maxEntries ⌝ }
+    ensures { λ r. ⌜ headOf r (now (block .exit)) ≡ requestHead (now (route .entry)) ⌝ }
 {
     let n = route.len();
-    let mut block = [0u8; MAX_ROUTE + 1];
-    places::put(route, &mut block, 0);
+    places::put(route, &mut *block, 0);
     if n <= 3 {
-        return Header::new(Function::Request, NEW_CONTROL, Form::Standard, &block[0..4]);
+        return Header::new(Function::Request, NEW_CONTROL, Form::Standard, 4);
     }
-    let end = n + 1;
-    Header::new(
-        Function::Request,
-        NEW_CONTROL,
-        Form::Extended(MARK),
-        &block[0..end],
-    )
+    let count = (n + 1) as u8;
+    Header::new(Function::Request, NEW_CONTROL, Form::Extended(MARK), count)
 }
 
 // Room for the longest body of a request: six bytes, and the values of the longest run.
@@ -117,23 +120,24 @@ pub fn write_request(
     if MAX_RUN < values.len() {
         return WriteAnswer::Refused(Refusal::TooLong);
     }
-    let header = request_header(route);
+    let mut block = [0u8; REQUEST_BLOCK];
+    let header = request_header(route, &mut block);
     let body = request_body(rstart, rcount as u8, wstart, values);
     let n = 6 + 2 * values.len();
-    mop_header::write(header, &body[0..n], &mut *out)
+    mop_header::write(header, &block, &body[0..n], &mut *out)
 }
 
 // The stations of a header's block, in order.
-fn route_of(header: Header) -> [u8; MAX_ROUTE]
-    requires { ⌜ length (stations (headOf header .block)) ≤ maxRoute ⌝ }
-    ensures { λ r. ⌜ r ≡ routePlaces (stations (headOf header .block)) ⌝ }
+fn route_of(header: Header, block: &[u8]) -> [u8; MAX_ROUTE]
+    requires { ⌜ length (stations (headOf header (now block) .block)) ≤ maxRoute ⌝ }
+    ensures { λ r. ⌜ r ≡ routePlaces (stations (headOf header (now (block .entry)) .block)) ⌝ }
 {
     let mut route = [0u8; MAX_ROUTE];
     let n = header.entry_count();
     let mut place: usize = 0;
     let mut i: usize = 0;
     while i < n {
-        let a = header.entry(i);
+        let a = header.entry(block, i);
         i += 1;
         if a == 0 {
             continue;
@@ -145,76 +149,32 @@ fn route_of(header: Header) -> [u8; MAX_ROUTE]
 }
 
 // Whether a body is as long as its count says.
-fn judge_reply(body: &[u8]) -> ReplyVerdict
-    ensures { λ r. ⌜ receiptOf r ≡ judgedReply (now (body .entry)) ⌝ }
+fn is_counted(body: &[u8]) -> bool
+    ensures { λ r. ⌜ r ≡ eqb (length (now (body .entry))) (3 + 2 * readCount (now (body .entry))) ⌝ }
 {
     let n = body.len();
     if n < 3 {
-        return ReplyVerdict::Refused(Refusal::BodyLength);
+        return false;
     }
     let count = body[2];
-    if n != 3 + 2 * count as usize {
-        return ReplyVerdict::Refused(Refusal::BodyLength);
-    }
-    ReplyVerdict::Accepted
-}
-
-// A telegram with a header in order: the first entry says whether it is for the centre.
-fn receive(header: Header, telegram: &[u8]) -> ReplyVerdict
-    requires { ⌜ headerLength (headOf header) ≤ length (now telegram) ⌝ }
-    ensures { λ r. ⌜ receiptOf r ≡ receiving fine (headOf header) (now (telegram .entry)) ⌝ }
-{
-    if header.first() != 0 {
-        return ReplyVerdict::NotMine;
-    }
-    let at = header.length();
-    let n = telegram.len();
-    judge_reply(&telegram[at..n])
-}
-
-// The verdict on a telegram, and its header.
-struct Opening {
-    verdict: ReplyVerdict,
-    header: Header,
-}
-
-// Reads the header of a telegram, and judges it.
-fn open_reply(telegram: &[u8]) -> Opening
-    ensures { λ r. ⌜ receiptOf (r .verdict) ≡ replyReceipt (now (telegram .entry)) ⌝ }
-    ensures { λ r. ⌜ headOf (r .header) ≡ reading Centre (now (telegram .entry)) .header ⌝ }
-{
-    let read = mop_header::read(Reader::Centre, telegram);
-    let header = read.header;
-    let verdict = read.verdict;
-    match verdict {
-        Verdict::Fault(r) => Opening {
-            verdict: ReplyVerdict::Refused(r),
-            header,
-        },
-        Verdict::Fine => {
-            let receipt = receive(header, telegram);
-            Opening {
-                verdict: receipt,
-                header,
-            }
-        }
-    }
+    n == 3 + 2 * count as usize
 }
 
 // What an accepted reply says.
-fn read_out(header: Header, telegram: &[u8]) -> ReplyRead
-    requires { ⌜ headerLength (headOf header) + 3 ≤ length (now telegram) ⌝ }
-    requires { ⌜ length (stations (headOf header .block)) ≤ maxRoute ⌝ }
-    ensures { λ r. ⌜ answerOf r ≡ readOut (headOf header) (bodyOf (headOf header) (now (telegram .entry))) .answer ⌝ }
+fn read_out(header: Header, block: &[u8], body: &[u8]) -> ReplyRead
+    requires { ⌜ 3 ≤ length (now body) ⌝ }
+    requires { ⌜ length (stations (headOf header (now block) .block)) ≤ maxRoute ⌝ }
+    ensures { λ r. ⌜ answerOf r ≡ readOut (headOf header (now (block .entry))) (now (body .entry)) .answer ⌝ }
 {
-    let route = route_of(header);
-    let at = header.length();
-    let start = words::word_of(telegram[at], telegram[at + 1]);
+    let route = route_of(header, block);
+    let start = words::word_of(body[0], body[1]);
+    let values_at = header.length() + 3;
     ReplyRead {
         verdict: ReplyVerdict::Accepted,
         route,
         start,
-        count: telegram[at + 2],
+        count: body[2],
+        values_at,
     }
 }
 
@@ -227,23 +187,40 @@ fn unread(verdict: ReplyVerdict) -> ReplyRead
         route: [0u8; MAX_ROUTE],
         start: 0,
         count: 0,
+        values_at: 0,
     }
 }
 
-// What a reply to the centre says: its route, and the run that was read. The values are given by read_reply_values.
+// A telegram whose header was read: the first entry says whether it is for the centre, then the length of its body is tested.
+fn receive(header: Header, telegram: &[u8]) -> ReplyRead
+    requires { ⌜ reading Centre (now telegram) ≡ sound (headOf header (drop (blockStart (header .form)) (now telegram))) ⌝ }
+    ensures { λ r. ⌜ answerOf r ≡ replyReading (now (telegram .entry)) .answer ⌝ }
+{
+    let n = telegram.len();
+    let start = header.block_start();
+    let at = header.length();
+    let block = &telegram[start..n];
+    let body = &telegram[at..n];
+    if header.first(block) != 0 {
+        return unread(ReplyVerdict::NotMine);
+    }
+    if !is_counted(body) {
+        return unread(ReplyVerdict::Refused(Refusal::BodyLength));
+    }
+    read_out(header, block, body)
+}
+
+// What a reply to the centre says: its route, the run that was read, and where its values begin. The values are given by
+// read_reply_values.
 // Not mine: the first entry of the block is a station's. Refused: 12, 2, 3, 4, 5, 6 for the header, where 3 is given for every
 // function byte but that of a reply, and 5 also for a block that names nobody; 7 for a body that is not as long as its count
 // says.
 pub fn read_reply(telegram: &[u8]) -> ReplyRead
     ensures { λ r. ⌜ answerOf r ≡ replyReading (now (telegram .entry)) .answer ⌝ }
 {
-    let opening = open_reply(telegram);
-    let header = opening.header;
-    let verdict = opening.verdict;
-    match verdict {
-        ReplyVerdict::Accepted => read_out(header, telegram),
-        ReplyVerdict::NotMine => unread(ReplyVerdict::NotMine),
-        ReplyVerdict::Refused(r) => unread(ReplyVerdict::Refused(r)),
+    match mop_header::read(Reader::Centre, telegram) {
+        HeaderRead::Fault(r) => unread(ReplyVerdict::Refused(r)),
+        HeaderRead::Fine(header) => receive(header, telegram),
     }
 }
 
@@ -253,15 +230,12 @@ pub fn read_reply_values(telegram: &[u8]) -> &[u8]
     ensures { λ r. ⌜ now r ≡ replyReading (now (telegram .entry)) .values ⌝ }
     ensures { λ r. ⌜ Begins (telegram .entry) r (replyReading (now (telegram .entry)) .begins) ⌝ }
 {
-    let opening = open_reply(telegram);
-    let header = opening.header;
-    let verdict = opening.verdict;
+    let reply = read_reply(telegram);
+    let at = reply.values_at;
+    let verdict = reply.verdict;
     let n = telegram.len();
     match verdict {
-        ReplyVerdict::Accepted => {
-            let start = header.length() + 3;
-            &telegram[start..n]
-        }
+        ReplyVerdict::Accepted => &telegram[at..n],
         ReplyVerdict::NotMine => &telegram[n..n],
         ReplyVerdict::Refused(_) => &telegram[n..n],
     }

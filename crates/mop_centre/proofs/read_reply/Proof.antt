@@ -1,68 +1,49 @@
--- `read_reply`: by the verdict.
+-- `read_reply`: by what reading the header gives.
 -- Assumes nothing.
 use mathlib.Core.Path.{sym, _∙_, ap}
-use Rattle.mop_centre.specs.Reply.{receiptOf, ReplyReading}
-use Rattle.mop_centre.proofs.Replies.{body-room, route-room, reply-read, not-mine-read, refused-read}
+use Rattle.mop_header.specs.Reading.{readingOf}
+use Rattle.mop_header.specs.declared.HeaderRead.{HeaderRead}
+use Rattle.mop_centre.specs.Reply.{ReplyReading, receiving}
+use Rattle.mop_centre.proofs.Replies.{receipt-by, refused-read}
 use borrow.Author.Needs.{needs}
 use Rattle.mop_centre.proofs.read_reply.Statement.{statement}
 use Rattle.mop_centre.proofs.read_reply.Tie as tie
 
-open-reply-requires : tie.Need-open-reply-requires
-open-reply-requires c κs = search needs
+read-requires : tie.Need-read-requires
+read-requires c κs = search needs
 
-enum-told : tie.Need-enum-told
-enum-told c = search needs
-
-read-out-requires : tie.Need-read-out-requires
-read-out-requires c κs =
-    let opened = c .before .before .before .open-reply in
-    let accepted = sym (opened .ensures .0) ∙ ap receiptOf (c .enum-told .given .1) in
-    (body-room _ (opened .ensures .1) accepted, route-room _ (opened .ensures .1) accepted)
-
-enum-told-2 : tie.Need-enum-told-2
-enum-told-2 c = search needs
+enum-known-r : tie.Need-enum-known-r
+enum-known-r c = search needs
 
 unread-requires : tie.Need-unread-requires
 unread-requires c κs = search needs
 
-enum-known-verdict : tie.Need-enum-known-verdict
-enum-known-verdict c = search needs
+enum-known-header : tie.Need-enum-known-header
+enum-known-header c = search needs
 
-unread-requires-2 : tie.Need-unread-requires-2
-unread-requires-2 c κs = search needs
+receive-requires : tie.Need-receive-requires
+receive-requires c κs =
+    let a = c .before .before .before .before .before .args in
+    sym (c .before .before .before .read .ensures) ∙ ap (λ (r : HeaderRead). readingOf r (a .telegram .now)) (c .before .header .given .1)
 
 returns : tie.Need-returns
+unfolding receiving
 returns c =
-    let opened = c .before .before .before .before .open-reply in
-    let accepted = sym (opened .ensures .0) ∙ ap receiptOf (c .before .enum-told .given .1) in
     let tg = c .before .before .before .before .before .before .args .telegram .now in
-    c .read-out .ensures ∙ sym (ap (λ (r : ReplyReading). r .answer) (reply-read tg (opened .ensures .1) accepted))
+    let read = sym (c .before .before .before .before .read .ensures) ∙ ap (λ (r : HeaderRead). readingOf r tg) (c .before .before .r .given .1) in
+    c .unread .ensures ∙ sym (ap (λ (r : ReplyReading). r .answer) (refused-read tg (receipt-by tg (sym read))))
 
 returns-2 : tie.Need-returns-2
-returns-2 c =
-    let opened = c .before .before .before .before .open-reply in
-    let receipt = sym (opened .ensures .0) ∙ ap receiptOf (c .before .enum-told2 .given .1) in
-    let tg = c .before .before .before .before .before .before .args .telegram .now in
-    c .unread .ensures ∙ sym (ap (λ (r : ReplyReading). r .answer) (not-mine-read tg receipt))
-
-returns-3 : tie.Need-returns-3
-returns-3 c =
-    let opened = c .before .before .before .before .before .open-reply in
-    let receipt = sym (opened .ensures .0) ∙ ap receiptOf (c .before .before .verdict .given .1) in
-    let tg = c .before .before .before .before .before .before .before .args .telegram .now in
-    c .unread2 .ensures ∙ sym (ap (λ (r : ReplyReading). r .answer) (refused-read tg receipt))
+returns-2 c = search needs
 
 pub read-reply-spec : {M : Type 1} → statement M
 read-reply-spec =
     tie.close
     (tie.spec
-    open-reply-requires
-    enum-told
-    read-out-requires
-    enum-told-2
+    read-requires
+    enum-known-r
     unread-requires
-    enum-known-verdict
-    unread-requires-2
+    enum-known-header
+    receive-requires
     returns
-    returns-2
-    returns-3)
+    returns-2)

@@ -1,31 +1,24 @@
--- `read_reply_values`: by the verdict; the stretch begins three bytes behind the header.
+-- `read_reply_values`: by the verdict; the stretch begins at the place that the answer tells.
 -- Assumes nothing.
-use lib.ListN.{length}
-use mathlib.Core.Path.{refl, sym, _∙_, ap}
+use mathlib.Core.Path.{refl, ap}
 use native.Mathlib.Omega.{arith}
+use lib.ListN.{length}
 use Rattle.mop_centre.specs.Reply.{receiptOf, unread}
-use Rattle.mop_centre.proofs.Replies.{body-room, stretch-bytes, stretch-place, not-mine-read, refused-read, no-bytes}
+use Rattle.mop_centre.proofs.Replies.{receipt-told, stretch-room, stretch-bytes, stretch-place, not-mine-read, refused-read, no-bytes}
 use borrow.Author.Needs.{needs}
 use Rattle.mop_centre.proofs.read_reply_values.Statement.{statement}
 use Rattle.mop_centre.proofs.read_reply_values.Tie as tie
 
-open-reply-requires : tie.Need-open-reply-requires
-open-reply-requires c κs = search needs
+read-reply-requires : tie.Need-read-reply-requires
+read-reply-requires c κs = search needs
 
 enum-told : tie.Need-enum-told
 enum-told c = search needs
 
-length-requires : tie.Need-length-requires
-length-requires c κs = search needs
-
-add-start : tie.Need-add-start
-add-start c = search needs
-
 sub-result : tie.Need-sub-result
 sub-result c =
-    let opened = c .before .before .before .before .open-reply in
-    let accepted = sym (opened .ensures .0) ∙ ap receiptOf (c .before .enum-told .given .1) in
-    omega (arith, body-room _ (opened .ensures .1) accepted)
+    let reply = c .before .before .read-reply in
+    stretch-room (c .before .before .before .before .args .telegram .now) (reply .ensures) (ap receiptOf (c .enum-told .given .1))
 
 part-result-start : tie.Need-part-result-start
 part-result-start c = sub-result c
@@ -59,37 +52,31 @@ part-result-end-3 c = search needs
 
 returns : tie.Need-returns
 returns c =
-    let opened = c .before .before .before .before .before .open-reply in
-    let accepted = sym (opened .ensures .0) ∙ ap receiptOf (c .before .before .enum-told .given .1) in
-    let tg = c .before .before .before .before .before .before .before .args .telegram .now in (
-      stretch-bytes tg (opened .ensures .1) accepted (c .before .length .ensures .0),
-      rw (stretch-place tg (opened .ensures .1) accepted (c .before .length .ensures .0)) refl,
-    )
+    let tg = c .before .before .before .before .before .args .telegram .now in
+    let reply = c .before .before .before .read-reply in
+    let accepted = ap receiptOf (c .before .enum-told .given .1) in
+    (stretch-bytes tg (reply .ensures) accepted, rw (stretch-place tg (reply .ensures) accepted) refl)
 
 returns-2 : tie.Need-returns-2
 unfolding unread
 returns-2 c =
-    let opened = c .before .before .before .before .open-reply in
-    let receipt = sym (opened .ensures .0) ∙ ap receiptOf (c .before .enum-told2 .given .1) in
-    let tg = c .before .before .before .before .before .before .args .telegram .now in
-    rw (not-mine-read tg receipt) (no-bytes tg, (length tg, omega arith, refl))
+    let tg = c .before .before .before .before .before .args .telegram .now in
+    let reply = c .before .before .before .read-reply in
+    rw (not-mine-read tg (receipt-told tg (reply .ensures) (ap receiptOf (c .before .enum-told2 .given .1)))) (no-bytes tg, (length tg, omega arith, refl))
 
 returns-3 : tie.Need-returns-3
 unfolding unread
 returns-3 c =
-    let opened = c .before .before .before .before .open-reply in
-    let receipt = sym (opened .ensures .0) ∙ ap receiptOf (c .before .enum-told3 .given .1) in
-    let tg = c .before .before .before .before .before .before .args .telegram .now in
-    rw (refused-read tg receipt) (no-bytes tg, (length tg, omega arith, refl))
+    let tg = c .before .before .before .before .before .args .telegram .now in
+    let reply = c .before .before .before .read-reply in
+    rw (refused-read tg (receipt-told tg (reply .ensures) (ap receiptOf (c .before .enum-told3 .given .1)))) (no-bytes tg, (length tg, omega arith, refl))
 
 pub read-reply-values-spec : {M : Type 1} → statement M
 read-reply-values-spec =
     tie.close
     (tie.spec
-    open-reply-requires
+    read-reply-requires
     enum-told
-    length-requires
-    add-start
     sub-result
     part-result-start
     part-result-end

@@ -1,50 +1,109 @@
--- `receive`: by the first entry; the body is what stands behind the header.
+-- `receive`: the first entry, then the length of the body.
 -- Assumes nothing.
-use mathlib.Core.Path.{sym, _∙_}
-use Rattle.base.proofs.Places.{take-rest}
-use Rattle.mop_header.specs.Header.{headOf, headerLength, bodyOf}
-use Rattle.mop_centre.proofs.Replies.{for-station, for-centre}
+use mathlib.Core.Path.{sym, _∙_, ap}
+use native.Mathlib.Omega.{arith}
+use borrow.Author.Tests.{eqb-true, not-true, not-false}
+use lib.ListN.{drop}
+use Rattle.mop_header.specs.Header.{blockStart}
+use Rattle.mop_header.specs.declared.Reader.the-variants.{Centre}
+use Rattle.mop_header.proofs.ReadBack.{sound-room}
+use Rattle.mop_centre.specs.Reply.{ReplyReading}
+use Rattle.mop_centre.proofs.Replies.{block-room, rest-from, body-from, route-room, station-read, miscounted-read, counted-read}
 use borrow.Author.Needs.{needs}
 use Rattle.mop_centre.proofs.receive.Statement.{statement}
 use Rattle.mop_centre.proofs.receive.Tie as tie
 
-first-requires : tie.Need-first-requires
-first-requires c κs = search needs
-
-returns : tie.Need-returns
-returns c = sym (for-station _ _ (λ e. c .if1 .taken (c .before .first .ensures ∙ e)))
+block-start-requires : tie.Need-block-start-requires
+block-start-requires c κs = search needs
 
 length-requires : tie.Need-length-requires
 length-requires c κs = search needs
 
-sub-judge-reply : tie.Need-sub-judge-reply
-sub-judge-reply c = search needs
+sub-block : tie.Need-sub-block
+sub-block c = omega (arith, block-room _ _ (c .before .before .before .pre), c .before .block-start .ensures)
 
-part-judge-reply-start : tie.Need-part-judge-reply-start
-part-judge-reply-start c = search needs
+part-block-start : tie.Need-part-block-start
+part-block-start c = sub-block c
 
-part-judge-reply-end : tie.Need-part-judge-reply-end
-part-judge-reply-end c = search needs
+part-block-end : tie.Need-part-block-end
+part-block-end c = search needs
 
-judge-reply-requires : tie.Need-judge-reply-requires
-judge-reply-requires c κs = search needs
+sub-body : tie.Need-sub-body
+sub-body c =
+    let a = c .before .before .before .before .args in
+    omega (arith, sound-room Centre _ _ (c .before .before .before .before .pre), c .before .length .ensures (drop (blockStart (a .header .form)) (a .telegram .now)))
+
+part-body-start : tie.Need-part-body-start
+part-body-start c = sub-body c
+
+part-body-end : tie.Need-part-body-end
+part-body-end c = search needs
+
+first-requires : tie.Need-first-requires
+first-requires c κs = search needs
+
+unread-requires : tie.Need-unread-requires
+unread-requires c κs = search needs
+
+returns : tie.Need-returns
+returns c =
+    let a = c .before .before .before .before .before .before .before .before .args in
+    let tg = a .telegram .now in
+    let read = c .before .before .before .before .before .before .before .before .pre in
+    let entry = rw (rest-from tg (c .before .before .before .before .before .before .block-start .ensures)) at (c .before .before .first .ensures) in
+    c .unread .ensures ∙ sym (ap (λ (r : ReplyReading). r .answer) (station-read tg read (λ e. c .before .if1 .taken (entry ∙ e))))
+
+is-counted-requires : tie.Need-is-counted-requires
+is-counted-requires c κs = search needs
+
+unread-requires-2 : tie.Need-unread-requires-2
+unread-requires-2 c κs = search needs
 
 returns-2 : tie.Need-returns-2
-unfolding bodyOf
 returns-2 c =
-    let a = c .before .before .before .before .before .before .args in
-    let judged = rw (c .before .before .length .ensures .0, take-rest (headerLength (headOf (a .header))) (a .telegram .now)) at (c .judge-reply .ensures) in
-    judged ∙ sym (for-centre _ _ (sym (c .before .before .before .before .first .ensures) ∙ c .before .before .before .if1 .left))
+    let a = c .before .before .before .before .before .before .before .before .before .before .args in
+    let tg = a .telegram .now in
+    let read = c .before .before .before .before .before .before .before .before .before .before .pre in
+    let entry = rw (rest-from tg (c .before .before .before .before .before .before .before .before .block-start .ensures)) at (c .before .before .before .before .first .ensures) in
+    let behind = body-from tg _ (c .before .before .before .before .before .before .before .length .ensures (drop (blockStart (a .header .form)) tg)) in
+    let short = sym (c .before .before .is-counted .ensures) ∙ not-true _ (c .before .if2 .taken) in
+    c .unread2 .ensures ∙ sym (ap (λ (r : ReplyReading). r .answer) (miscounted-read tg read (sym entry ∙ c .before .before .before .if1 .left) behind short))
+
+read-out-requires : tie.Need-read-out-requires
+read-out-requires c κs =
+    let tg = c .before .before .before .before .before .before .before .before .before .args .telegram .now in (
+      omega (arith, eqb-true, sym (c .before .is-counted .ensures) ∙ not-false _ (c .if2 .left)),
+      rw (rest-from tg (c .before .before .before .before .before .before .before .block-start .ensures)) (route-room tg (c .before .before .before .before .before .before .before .before .before .pre)),
+    )
+
+returns-3 : tie.Need-returns-3
+returns-3 c =
+    let a = c .before .before .before .before .before .before .before .before .before .before .args in
+    let tg = a .telegram .now in
+    let read = c .before .before .before .before .before .before .before .before .before .before .pre in
+    let entry = rw (rest-from tg (c .before .before .before .before .before .before .before .before .block-start .ensures)) at (c .before .before .before .before .first .ensures) in
+    let behind = body-from tg _ (c .before .before .before .before .before .before .before .length .ensures (drop (blockStart (a .header .form)) tg)) in
+    let long = sym (c .before .before .is-counted .ensures) ∙ not-false _ (c .before .if2 .left) in
+    rw (rest-from tg (c .before .before .before .before .before .before .before .before .block-start .ensures)) at (c .read-out .ensures)
+    ∙ sym (ap (λ (r : ReplyReading). r .answer) (counted-read tg read (sym entry ∙ c .before .before .before .if1 .left) behind long))
 
 pub receive-spec : {M : Type 1} → statement M
 receive-spec =
     tie.close
     (tie.spec
-    first-requires
-    returns
+    block-start-requires
     length-requires
-    sub-judge-reply
-    part-judge-reply-start
-    part-judge-reply-end
-    judge-reply-requires
-    returns-2)
+    sub-block
+    part-block-start
+    part-block-end
+    sub-body
+    part-body-start
+    part-body-end
+    first-requires
+    unread-requires
+    returns
+    is-counted-requires
+    unread-requires-2
+    returns-2
+    read-out-requires
+    returns-3)

@@ -16,18 +16,19 @@ use Rattle.mop_centre.proofs.route_of.Statement.{statement}
 use Rattle.mop_centre.proofs.route_of.Tie as tie
 
 abbrev Inv-loop : tie.InvT-loop
-Inv-loop header route₀ n place₀ i₀ route place i =
-    (i ≤ n) × (length route ≡ maxRoute) × (place + length (stations (drop i (headOf header .block))) ≤ maxRoute)
-    × (sets route place (stations (drop i (headOf header .block))) ≡ sets (zeros maxRoute) 0 (stations (headOf header .block)))
+Inv-loop header block route₀ n place₀ i₀ route place i =
+    let b = headOf header block .block in
+    (i ≤ n) × (n ≡ length b) × (length route ≡ maxRoute) × (place + length (stations (drop i b)) ≤ maxRoute)
+    × (sets route place (stations (drop i b)) ≡ sets (zeros maxRoute) 0 (stations b))
 
 abbrev μ-loop : tie.MeasureT-loop
-μ-loop header route₀ n place₀ i₀ route place i = n - i
+μ-loop header block route₀ n place₀ i₀ route place i = n - i
 
 entry-count-requires : tie.Need-entry-count-requires Inv-loop μ-loop
 entry-count-requires c κs = search needs
 
 loop-holds : tie.Need-loop-holds Inv-loop μ-loop
-loop-holds c = (omega arith, refl, omega arith, refl)
+loop-holds c = (omega arith, c .entry-count .ensures _, refl, omega arith, refl)
 
 entry-requires : tie.Need-entry-requires Inv-loop μ-loop
 entry-requires c κs = search needs
@@ -41,15 +42,17 @@ loop-less c = omega arith
 loop-again : tie.Need-loop-again Inv-loop μ-loop
 loop-again c =
     let v = c .before .before .before .loop in
-    let b = headOf (c .before .before .before .before .before .args .header) .block in
+    let a = c .before .before .before .before .before .before .args in
+    let b = headOf (a .header) (a .block .now) .block in
     let inside : v .i < length b = omega arith in
     let zero : getD b (v .i) 0 ≡ 0 = sym (c .before .entry .ensures) ∙ c .if1 .taken in
-    (omega arith, v .inv .1, rw (← zero-next b (v .i) inside zero) (v .inv .2), passed-over b (v .i) (v .route) (v .place) (v .inv .3) inside zero)
+    (omega arith, v .inv .1, v .inv .2, rw (← zero-next b (v .i) inside zero) (v .inv .3), passed-over b (v .i) (v .route) (v .place) (v .inv .4) inside zero)
 
 array-write-route : tie.Need-array-write-route Inv-loop μ-loop
 array-write-route c =
     let v = c .before .before .before .loop in
-    let b = headOf (c .before .before .before .before .before .args .header) .block in
+    let a = c .before .before .before .before .before .before .args in
+    let b = headOf (a .header) (a .block .now) .block in
     omega (arith, one-fewer b (v .i) (omega arith) (λ e. c .if1 .left (c .before .entry .ensures ∙ e)))
 
 add-place : tie.Need-add-place Inv-loop μ-loop
@@ -61,20 +64,23 @@ loop-less-2 c = omega arith
 loop-again-2 : tie.Need-loop-again-2 Inv-loop μ-loop
 loop-again-2 c =
     let v = c .before .before .before .loop in
-    let b = headOf (c .before .before .before .before .before .args .header) .block in
+    let a = c .before .before .before .before .before .before .args in
+    let b = headOf (a .header) (a .block .now) .block in
     let inside : v .i < length b = omega arith in
     let station : getD b (v .i) 0 ≡ 0 → ⊥ = λ e. c .if1 .left (c .before .entry .ensures ∙ e) in (
       omega arith,
-      simp length-set (v .inv .1),
+      v .inv .1,
+      simp length-set (v .inv .2),
       omega (arith, one-fewer b (v .i) inside station),
-      rw (c .before .entry .ensures) (station-told b (v .i) (v .route) (v .place) (v .inv .3) inside station),
+      rw (c .before .entry .ensures) (station-told b (v .i) (v .route) (v .place) (v .inv .4) inside station),
     )
 
 returns : tie.Need-returns Inv-loop μ-loop
 returns c =
     let v = c .before .loop in
-    let b = headOf (c .before .before .before .args .header) .block in
-    all-told b (v .i) (v .route) (v .place) (v .inv .3) (omega arith) ∙ told-places (stations b) (omega arith)
+    let a = c .before .before .before .before .args in
+    let b = headOf (a .header) (a .block .now) .block in
+    all-told b (v .i) (v .route) (v .place) (v .inv .4) (omega arith) ∙ told-places (stations b) (omega arith)
 
 pub route-of-spec : {M : Type 1} → statement M
 route-of-spec =

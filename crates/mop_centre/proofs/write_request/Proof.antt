@@ -1,6 +1,6 @@
 -- `write_request`: the route, the runs, then the telegram.
 -- Assumes nothing.
-use mathlib.Core.Path.{_≡_, sym, _∙_, ap, ap₂}
+use mathlib.Core.Path.{_≡_, refl, sym, _∙_, ap, ap₂}
 use mathlib.Core.List.{List}
 use Prim.Native.Nat.{ℕ, _+_, _*_, _-_}
 use native.Mathlib.Omega.{arith}
@@ -22,17 +22,16 @@ returns : tie.Need-returns
 returns c = sym (bad-route _ _ _ _ _ _ (sym (c .before .is-route .ensures) ∙ not-true _ (c .if1 .taken)))
 
 returns-2 : tie.Need-returns-2
-returns-2 c =
-    let good = sym (c .before .before .is-route .ensures) ∙ not-false _ (c .before .if1 .left) in
-    sym (long-read _ _ _ _ _ _ good (c .if2 .taken))
+returns-2 c = sym (long-read _ _ _ _ _ _ (sym (c .before .before .is-route .ensures) ∙ not-false _ (c .before .if1 .left)) (omega arith))
 
 returns-3 : tie.Need-returns-3
-returns-3 c =
-    let good = sym (c .before .before .before .is-route .ensures) ∙ not-false _ (c .before .before .if1 .left) in
-    sym (long-write _ _ _ _ _ _ good (c .if3 .taken))
+returns-3 c = sym (long-write _ _ _ _ _ _ (sym (c .before .before .before .is-route .ensures) ∙ not-false _ (c .before .before .if1 .left)) (c .if3 .taken))
+
+slice-aggregate-request-header : tie.Need-slice-aggregate-request-header
+slice-aggregate-request-header c = search needs
 
 request-header-requires : tie.Need-request-header-requires
-request-header-requires c κs = route-parts _ (sym (c .before .before .before .is-route .ensures) ∙ not-false _ (c .before .before .if1 .left)) .most
+request-header-requires c κs = (route-parts _ (sym (c .before .before .before .before .is-route .ensures) ∙ not-false _ (c .before .before .before .if1 .left)) .most, refl)
 
 cast-request-body : tie.Need-cast-request-body
 cast-request-body c = search needs
@@ -45,6 +44,9 @@ mul-n c = search needs
 
 add-n : tie.Need-add-n
 add-n c = search needs
+
+slice-aggregate-write : tie.Need-slice-aggregate-write
+slice-aggregate-write c = search needs
 
 sub-write : tie.Need-sub-write
 sub-write c = search needs
@@ -64,15 +66,17 @@ same-length c = search needs
 returns-4 : tie.Need-returns-4
 unfolding requestTelegram
 returns-4 c =
-    let out = c .before .before .before .before .before .before .before .before .before .before .before .before .before .before .before .args .out .now in
-    let good = sym (c .before .before .before .before .before .before .before .before .before .before .before .is-route .ensures) ∙ not-false _ (c .before .before .before .before .before .before .before .before .before .before .if1 .left) in
-    let body = c .before .before .before .before .before .before .request-body in
-    let n = 6 + 2 * length (c .before .before .before .before .before .before .before .before .before .before .before .before .before .before .before .args .values .now) in
+    let at-request-header = c .before .before .before .before .before .before .before .before .before in
+    let a = at-request-header .before .before .before .before .before .before .before .before .before .args in
+    let out = a .out .now in
+    let good = sym (at-request-header .before .before .before .before .before .is-route .ensures) ∙ not-false _ (at-request-header .before .before .before .before .if1 .left) in
+    let body = c .before .before .before .before .before .before .before .request-body in
+    let n = 6 + 2 * length (a .values .now) in
     let all : n - 0 ≡ n = omega arith in
     let bytes = ap (λ (k : ℕ). take k (body .result)) all ∙ body .ensures in
     c .before .before .write .ensures
-    ∙ ap₂ (λ (h : Head) (l : List ℕ). fitted (telegramOf h l) out) (c .before .before .before .before .before .before .before .request-header .ensures) bytes
-    ∙ sym (request-fitted _ _ _ _ _ _ good (c .before .before .before .before .before .before .before .before .before .if2 .left) (c .before .before .before .before .before .before .before .before .if3 .left))
+    ∙ ap₂ (λ (h : Head) (l : List ℕ). fitted (telegramOf h l) out) (at-request-header .request-header .ensures) bytes
+    ∙ sym (request-fitted _ _ _ _ _ _ good (at-request-header .before .before .before .if2 .left) (at-request-header .before .before .if3 .left))
 
 pub write-request-spec : {M : Type 1} → statement M
 write-request-spec =
@@ -82,11 +86,13 @@ write-request-spec =
     returns
     returns-2
     returns-3
+    slice-aggregate-request-header
     request-header-requires
     cast-request-body
     request-body-requires
     mul-n
     add-n
+    slice-aggregate-write
     sub-write
     part-write-start
     part-write-end
