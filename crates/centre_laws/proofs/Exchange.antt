@@ -33,6 +33,7 @@ use Rattle.mop_station.proofs.Answers.{reply-bound}
 use Rattle.mop_centre.specs.Request.{requestHead, requestTelegram, requesting}
 use Rattle.mop_centre.specs.Reply.{ReplyReading, acceptedReading, replyReceipt, replyReading}
 use Rattle.mop_centre.proofs.Routes.{Route}
+use Rattle.mop_centre.proofs.Replies.{receipt-read}
 use Rattle.journey.specs.Net.{Net, goodNet, isThere, allThere, upToMissing, tableAt, withTable}
 use Rattle.journey.specs.Journey.{Ending, Course, Journey}
 use Rattle.journey.specs.Terms.{m, thereAndBack, Written, destination, lastTelegram}
@@ -43,7 +44,7 @@ use Rattle.journey.proofs.Whole.{every-journey, byte-for-byte}
 use Rattle.centre_laws.specs.ReadBack.{routeEnd, ReadsAs}
 use Rattle.centre_laws.specs.Exchange.{verdicts, answerFrom, Answered, NoAnswer, Exchange, EveryExchange}
 use Rattle.centre_laws.proofs.Requests.{Shape, shape, route-full, route-once, wrote, request-reads-back}
-use Rattle.centre_laws.proofs.Replies.{receipt-read, reply-reads-back}
+use Rattle.centre_laws.proofs.Replies.{reply-reads-back}
 use Rattle.centre_laws.proofs.Rolls.{last-reply}
 use Rattle.centre_laws.proofs.Heard.{requests-heard, journey-heard}
 

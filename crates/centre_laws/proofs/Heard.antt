@@ -11,7 +11,7 @@ use Rattle.mop_block.specs.Block.{stations, first}
 use Rattle.mop_block.specs.Zipper.{Full, nil, cons}
 use Rattle.mop_block.proofs.Stations.{full-reverse}
 use Rattle.mop_header.specs.Header.{Head, functionByte, headerBytes, telegramOf, bodyOf}
-use Rattle.mop_header.specs.Reading.{Finding, fine, fault, sound, allowed, maxTelegram, reading}
+use Rattle.mop_header.specs.Reading.{Reading, sound, faulty, allowed, maxTelegram, reading}
 use Rattle.mop_header.specs.ReadBack.{sized, InOrder}
 use Rattle.mop_header.specs.declared.Function.{Function}
 use Rattle.mop_header.specs.declared.Function.the-variants.{Request, Reply}
@@ -20,7 +20,7 @@ use Rattle.mop_header.specs.declared.Form.the-variants.{Standard, Extended}
 use Rattle.mop_header.specs.declared.Reader.the-variants.{Station, Centre}
 use Rattle.mop_header.proofs.Lengths.{headerRoom, length-header}
 use Rattle.mop_header.proofs.Readers.{taken-good, centre-takes, centre-allows}
-use Rattle.mop_header.proofs.ReadBack.{reads-back, is-written, reading-fine, sound-room}
+use Rattle.mop_header.proofs.ReadBack.{reads-back, is-written, sound-room}
 use Rattle.mop_header.proofs.Steps.{not-allowed}
 use Rattle.mop_centre.specs.Reply.{Receipt, notMine, refuses, receiving, replyReceipt}
 use Rattle.mop_centre.proofs.Replies.{receipt-by, for-station}
@@ -74,20 +74,19 @@ unread-shown : {f : Function} {a : ℕ} {x : List ℕ} → unreadable ≡ shows 
 unread-shown e = let z : _≡_ {A = ℕ} 0 1 = cc in omega arith
 
 module _ (tg : List ℕ) {a : ℕ} {body : List ℕ} where
-  request-by : (v : Finding) → reading Station tg .finding ≡ v → shownIn v (reading Station tg .header) tg ≡ shows Request a body → replyReceipt tg ≡ refuses 3
-  request-by (fault k) e s = absurd (unread-shown s)
-  request-by fine e s = request-refused tg (reading Station tg .header) (reading-fine Station tg e) (shown-kind s .0)
+  request-by : (r : Reading) → reading Station tg ≡ r → shownIn r tg ≡ shows Request a body → replyReceipt tg ≡ refuses 3
+  request-by (faulty k) e s = absurd (unread-shown s)
+  request-by (sound h) e s = request-refused tg h e (shown-kind s .0)
 
-  reply-by : (v : Finding) → reading Station tg .finding ≡ v → shownIn v (reading Station tg .header) tg ≡ shows Reply (suc a) body → replyReceipt tg ≡ notMine
-  reply-by (fault k) e s = absurd (unread-shown s)
-  reply-by fine e s =
-      reply-not-mine tg (reading Station tg .header) (reading-fine Station tg e) (shown-kind s .0) (λ z. omega (arith, shown-kind s .1, z))
+  reply-by : (r : Reading) → reading Station tg ≡ r → shownIn r tg ≡ shows Reply (suc a) body → replyReceipt tg ≡ notMine
+  reply-by (faulty k) e s = absurd (unread-shown s)
+  reply-by (sound h) e s = reply-not-mine tg h e (shown-kind s .0) (λ z. omega (arith, shown-kind s .1, z))
 
   request-heard : shown tg ≡ shows Request a body → replyReceipt tg ≡ refuses 3
-  request-heard s = request-by (reading Station tg .finding) refl s
+  request-heard s = request-by (reading Station tg) refl s
 
   relay-heard : shown tg ≡ shows Reply (suc a) body → replyReceipt tg ≡ notMine
-  relay-heard s = reply-by (reading Station tg .finding) refl s
+  relay-heard s = reply-by (reading Station tg) refl s
 
 -- transmissions that show stations one after the other
 module _ (r : Receipt) (s : ℕ → Shown) (says : (tg : List ℕ) (a : ℕ) → shown tg ≡ s (suc a) → replyReceipt tg ≡ r) where

@@ -9,7 +9,7 @@ use lib.ListN.{length}
 use Rattle.mop_station.specs.Station.{Handled, sent, refuses, handling}
 use Rattle.base.specs.Choice.{pick}
 use Rattle.mop_block.specs.Block.{first}
-use Rattle.mop_header.specs.Reading.{Finding, fine, fault, reading}
+use Rattle.mop_header.specs.Reading.{Reading, sound, faulty, reading}
 use Rattle.mop_header.specs.declared.Reader.the-variants.{Station}
 use Rattle.journey.specs.Net.{Net, addressesOf, isThere, tableAt}
 use Rattle.journey.specs.Journey.{atNobody, refusedWith, noStation, station, named, addressee, handler, Course, Journey, ends, refused, sends}
@@ -48,14 +48,14 @@ unfolding named
 named-unrefused zero net k e = let x : _≡_ {A = ℕ} 0 1 = cc in omega arith
 named-unrefused (suc a) net k e = pick-nobody (isThere (suc a) net) (suc a) k (tableAt (suc a) net) e
 
-addressee-unrefused : (v : Finding) (a : ℕ) (net : Net) (k : ℕ) → isFine v ≡ true → addressee v a net ≡ noStation (refusedWith k) → ⊥
+addressee-unrefused : (r : Reading) (net : Net) (k : ℕ) → isFine r ≡ true → addressee r net ≡ noStation (refusedWith k) → ⊥
 unfolding addressee
-addressee-unrefused fine a net k well e = named-unrefused a net k e
-addressee-unrefused (fault j) a net k well e = let x : _≡_ {A = ℕ} 0 1 = cc in omega arith
+addressee-unrefused (sound h) net k well e = named-unrefused (first (h .block)) net k e
+addressee-unrefused (faulty j) net k well e = let x : _≡_ {A = ℕ} 0 1 = cc in omega arith
 
-ends-unrefused : (net : Net) (tg : List ℕ) (k : ℕ) → isFine (reading Station tg .finding) ≡ true → handler net tg ≡ noStation (refusedWith k) → ⊥
+ends-unrefused : (net : Net) (tg : List ℕ) (k : ℕ) → isFine (reading Station tg) ≡ true → handler net tg ≡ noStation (refusedWith k) → ⊥
 unfolding handler
-ends-unrefused net tg k well e = addressee-unrefused (reading Station tg .finding) (first (reading Station tg .header .block)) net k well e
+ends-unrefused net tg k well e = addressee-unrefused (reading Station tg) net k well e
 
 same-number : {j k : ℕ} → refusedWith j ≡ refusedWith k → j ≡ k
 same-number e = cc
@@ -64,10 +64,10 @@ same-number e = cc
 pub given-by : {net : Net} {tg : List ℕ} {d : Course} → Journey net tg d → allFine (d .transmissions) ≡ true → (k : ℕ) → d .ending ≡ refusedWith k →
     (earlier : List Handled) × (d .answers ≡ earlier ++ (refuses k ∷ []))
 given-by (ends {net = net} {tg = tg} e) well k is =
-    absurd (ends-unrefused net tg k (and-eq-true-iff (isFine (reading Station tg .finding)) true .0 well .0) (e ∙ ap noStation is))
+    absurd (ends-unrefused net tg k (and-eq-true-iff (isFine (reading Station tg)) true .0 well .0) (e ∙ ap noStation is))
 given-by (refused mine out room e) well k is = ([], ap (λ (n : ℕ). refuses n ∷ []) (same-number is))
 given-by (sends {tg = tg} {n = n} {rest = rest} mine out room e j) well k is =
-    let x = given-by j (and-eq-true-iff (isFine (reading Station tg .finding)) (allFine (rest .transmissions)) .0 well .1) k is in
+    let x = given-by j (and-eq-true-iff (isFine (reading Station tg)) (allFine (rest .transmissions)) .0 well .1) k is in
     (sent n ∷ x .0, ap (λ (l : List Handled). sent n ∷ l) (x .1))
 
 -- lists of answers

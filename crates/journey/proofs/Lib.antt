@@ -12,4 +12,5 @@ pub mod Passage
 pub mod Courses
 pub mod Start
 pub mod Fresh
+pub mod Walks
 pub mod Whole

@@ -1,7 +1,7 @@
 -- Every call gives the same with any output that is long enough.
 -- Assumes nothing.
 use mathlib.Core.Path.{_≡_, refl, sym, _∙_, ap, subst}
-use mathlib.Core.Bool.{Bool, true, false}
+use mathlib.Core.Bool.{Bool, true, false, and-eq-true-iff}
 use mathlib.Core.List.{List}
 use Prim.Native.Nat.{ℕ, zero, suc, _≤_}
 use native.Mathlib.Omega.{arith}
@@ -13,13 +13,15 @@ use Rattle.base.proofs.Places.{take-placed}
 use Rattle.registers.specs.Rows.{tableLength}
 use Rattle.mop_block.specs.Block.{isAddress, first, next}
 use Rattle.mop_header.specs.Header.{Head, telegramOf, bodyOf, rolledLeft, sentBack}
-use Rattle.mop_header.specs.Reading.{Finding, fine, fault, sound, reading}
+use Rattle.mop_header.specs.Reading.{Reading, sound, faulty, reading}
 use Rattle.mop_header.specs.declared.Function.{Function}
 use Rattle.mop_header.specs.declared.Function.the-variants.{Request, Reply}
 use Rattle.mop_header.specs.declared.Reader.the-variants.{Station}
 use Rattle.mop_station.specs.Body.{Acceptance, accepts, rejects, judgedBody, afterWrites, replyBody}
-use Rattle.mop_station.specs.Station.{Handled, sent, notMine, refuses, Handling, leaving, replied, handling}
-use Rattle.mop_station.proofs.Telegrams.{for-another, bad-address, bad-table, set-up}
+use Rattle.mop_station.specs.Step.{Step, isStation, replied}
+use Rattle.mop_station.specs.Station.{Handled, sent, notMine, refuses, Handling, leaving, sendingBy, taking, handling}
+use Rattle.mop_station.proofs.Steps.{for-another}
+use Rattle.mop_station.proofs.Telegrams.{is-station, not-set-up, heard}
 use Rattle.journey.specs.Journey.{callOutput}
 use Rattle.journey.proofs.Calls.{call-fault, call-reply, call-request, call-accepted, call-rejected}
 
@@ -75,22 +77,25 @@ module _ (own : ℕ) (t tg : List ℕ) where
             sending (telegramOf (sentBack h) (bodyOf h tg)) t (λ out room. call-reply own t tg out h order address long mine room e)
 
       by-first : (c : Bool) → eqb (first (h .block)) own ≡ c → Call own t tg
+      unfolding sendingBy
       by-first true e = by-function (eqb-true (first (h .block)) own e) (h .function) refl
       by-first false e =
+          let body = bodyOf h tg in
+          let set = is-station own t address long in
           silent notMine not-mine-silent
-          (λ out room. set-up own t tg out address long (sym order) ∙ for-another own h tg t out (eqb-false (first (h .block)) own e))
+          (λ out room. heard own t tg out set h order
+          ∙ ap (λ (s : Step). taking s body out) (for-another own h body t (length out) set (eqb-false (first (h .block)) own e)))
 
-    by-finding : (v : Finding) (h : Head) → reading Station tg ≡ record { finding = v; header = h } → Call own t tg
-    by-finding (fault k) h e = silent (refuses k) (refuses-silent k) (λ out room. call-fault own t tg out k (rw e) address long)
-    by-finding fine h e = by-first h e (eqb (first (h .block)) own) refl
+    by-reading : (r : Reading) → reading Station tg ≡ r → Call own t tg
+    by-reading (faulty k) e = silent (refuses k) (refuses-silent k) (λ out room. call-fault own t tg out k e address long)
+    by-reading (sound h) e = by-first h e (eqb (first (h .block)) own) refl
 
-  by-table : isAddress own ≡ true → (c : Bool) → eqb (length t) tableLength ≡ c → Call own t tg
-  by-table address true e = by-finding address (eqb-true (length t) tableLength e) (reading Station tg .finding) (reading Station tg .header) refl
-  by-table address false e = silent (refuses 1) (refuses-silent 1) (λ out room. bad-table own t tg out (eqb-false (length t) tableLength e))
-
-  by-address : (c : Bool) → isAddress own ≡ c → Call own t tg
-  by-address true e = by-table e (eqb (length t) tableLength) refl
-  by-address false e = silent (refuses 1) (refuses-silent 1) (λ out room. bad-address own t tg out e)
+  by-station : (c : Bool) → isStation own t ≡ c → Call own t tg
+  unfolding isStation
+  by-station true e =
+      let both = and-eq-true-iff (isAddress own) (eqb (length t) tableLength) .0 e in
+      by-reading (both .0) (eqb-true (length t) tableLength (both .1)) (reading Station tg) refl
+  by-station false e = silent (refuses 1) (refuses-silent 1) (λ out room. not-set-up own t tg out e)
 
 -- the bytes placed are the same in both outputs
 taken-same : (x out out₂ : List ℕ) (n : ℕ) → length x ≡ n → take n (placed x out) ≡ take n (placed x out₂)
@@ -107,7 +112,7 @@ same-by own t tg out out₂ room room₂ (sending x after e) =
 
 pub any-output : (a : ℕ) (t tg out out₂ : List ℕ) → callOutput ≤ length out → callOutput ≤ length out₂ →
     SameCall (handling a t tg out) (handling a t tg out₂)
-any-output a t tg out out₂ room room₂ = same-by a t tg out out₂ room room₂ (by-address a t tg (isAddress a) refl)
+any-output a t tg out out₂ room room₂ = same-by a t tg out out₂ room room₂ (by-station a t tg (isStation a t) refl)
 
 -- the bytes sent are as many as the answer says
 long-by : (own : ℕ) (t tg out : List ℕ) (n : ℕ) → callOutput ≤ length out → Call own t tg → handling own t tg out .handled ≡ sent n →
@@ -120,4 +125,4 @@ long-by own t tg out n room (sending x after e) g =
 
 pub sent-length : (a : ℕ) (t tg out : List ℕ) (n : ℕ) → callOutput ≤ length out → handling a t tg out .handled ≡ sent n →
     length (take n (handling a t tg out .output)) ≡ n
-sent-length a t tg out n room = long-by a t tg out n room (by-address a t tg (isAddress a) refl)
+sent-length a t tg out n room = long-by a t tg out n room (by-station a t tg (isStation a t) refl)

@@ -12,7 +12,7 @@ use Rattle.mop_block.specs.Zipper.{spread, Full, nil, cons, Once, Zipper}
 use Rattle.mop_block.proofs.Stations.{full-reverse, stations-spread}
 use Rattle.mop_block.proofs.Zipper.{has-view}
 use Rattle.mop_header.specs.Header.{Head, head, telegramOf, bodyOf, remarked}
-use Rattle.mop_header.specs.Reading.{sound, goodFor, maxTelegram, reading}
+use Rattle.mop_header.specs.Reading.{sound, reading}
 use Rattle.mop_header.specs.declared.Form.{Form}
 use Rattle.mop_header.specs.declared.Function.{Function}
 use Rattle.mop_header.specs.declared.Function.the-variants.{Request, Reply}
@@ -26,7 +26,7 @@ use Rattle.journey.specs.Terms.{m, Fresh, beforeZeros, allOrdinary, allF
 use Rattle.journey.specs.Demand3.{Unanswered}
 use Rattle.journey.proofs.Net.{all-none}
 use Rattle.journey.proofs.Ring.{last-at, before-zeros, none-passed}
-use Rattle.journey.proofs.Telegrams.{telegramFor, length-read, Faultless, reads-well, still-fine, first-is}
+use Rattle.journey.proofs.Telegrams.{telegramFor, Faultless, sound-faultless, reads-well, still-fine, first-is}
 use Rattle.journey.proofs.Steps.{ends-zero, stop-nobody, hop-reply}
 use Rattle.journey.proofs.Positions.{first-ahead, length-spread}
 use Rattle.journey.proofs.Homeward.{home}
@@ -199,15 +199,9 @@ module _ (out : List ℕ) (room : callOutput ≤ length out) (net : Net) (fit : 
 
 pub start : (out : List ℕ) → callOutput ≤ length out → (net : Net) → goodNet net ≡ true → (tg : List ℕ) (h : Head) → reading Station tg ≡ sound h →
     Start net tg h (bodyOf h tg)
-unfolding goodFor
 start out room net fit tg h order =
     let body = bodyOf h tg in
     let well = is-written Station tg h order in
     let same : telegramOf (remarked h) body ≡ tg = ap (λ (g : Head). telegramOf g body) (agrees-remarked h (well .order .mark)) ∙ well .whole in
-    let w : Faultless (h .form) (h .block) body = record {
-      good = well .order .block;
-      size = well .order .size;
-      short = subst (λ (n : ℕ). n ≤ maxTelegram) (sym (ap length (well .whole)) ∙ length-read h body) (well .short);
-    } in
     subst (λ (x : List ℕ). Start net x h body) same
-    (by-first out room net fit (h .control) (h .form) body (h .function) (h .block) w (first (h .block)) refl)
+    (by-first out room net fit (h .control) (h .form) body (h .function) (h .block) (sound-faultless tg h order) (first (h .block)) refl)

@@ -1,16 +1,17 @@
 -- One hop of a journey, for each kind of telegram.
 -- Assumes nothing.
-use mathlib.Core.Path.{_≡_, sym, _∙_, ap, ap₂, subst, subst₂}
+use mathlib.Core.Path.{_≡_, refl, sym, _∙_, ap, ap₂, subst, subst₂}
 use mathlib.Core.Bool.{true, false}
 use mathlib.Core.List.{List}
-use Prim.Native.Nat.{ℕ, suc, _≤_}
+use Prim.Native.Nat.{ℕ, zero, suc, _≤_}
+use native.Mathlib.Omega.{arith}
 use lib.ListN.{length, take}
 use Rattle.base.specs.Places.{placed}
 use Rattle.base.proofs.Places.{take-placed}
 use Rattle.registers.specs.Rows.{tableLength}
 use Rattle.mop_block.specs.Block.{isAddress, first, next, rollLeft, rollRight}
 use Rattle.mop_header.specs.Header.{Head, head, telegramOf, bodyOf, remarked, newControl}
-use Rattle.mop_header.specs.Reading.{Finding, fault, Reading, sound, reading}
+use Rattle.mop_header.specs.Reading.{Reading, sound, faulty, reading}
 use Rattle.mop_header.specs.declared.Function.{Function}
 use Rattle.mop_header.specs.declared.Function.the-variants.{Request, Reply}
 use Rattle.mop_header.specs.declared.Form.{Form}
@@ -28,26 +29,28 @@ use Rattle.journey.proofs.Telegrams.{telegramFor, Faultless, reads-well
 
 -- no station is called: with 00 first, with an address that nobody has, with a fault of the header
 module _ (net : Net) (tg : List ℕ) where
-  pub ends-faulty : (k : ℕ) → reading Station tg .finding ≡ fault k → Journey net tg (unheard tg net (refusedWith k))
+  pub ends-faulty : (k : ℕ) → reading Station tg ≡ faulty k → Journey net tg (unheard tg net (refusedWith k))
   unfolding handler addressee
-  ends-faulty k e = ends (ap (λ (v : Finding). addressee v (first (reading Station tg .header .block)) net) e)
+  ends-faulty k e = ends (ap (λ (r : Reading). addressee r net) e)
 
   module _ (h : Head) (order : reading Station tg ≡ sound h) where
     handler-read : handler net tg ≡ named (first (h .block)) net
     unfolding handler addressee
-    handler-read = ap (λ (r : Reading). addressee (r .finding) (first (r .header .block)) net) order
+    handler-read = ap (λ (r : Reading). addressee r net) order
 
     pub ends-zero : first (h .block) ≡ 0 → Journey net tg (unheard tg net atZero)
     unfolding named
     ends-zero e = ends (handler-read ∙ ap (λ (a : ℕ). named a net) e)
 
-    pub ends-nobody : (p : ℕ) → first (h .block) ≡ suc p → isThere (suc p) net ≡ false → Journey net tg (unheard tg net atNobody)
+    pub ends-nobody : (a : ℕ) → first (h .block) ≡ a → (a ≡ 0 → ⊥) → isThere a net ≡ false → Journey net tg (unheard tg net atNobody)
     unfolding named
-    ends-nobody p e none = ends {e = atNobody} (handler-read ∙ ap (λ (a : ℕ). named a net) e ∙ rw none)
+    ends-nobody zero e n none = absurd (n refl)
+    ends-nobody (suc p) e n none = ends {e = atNobody} (handler-read ∙ ap (λ (a : ℕ). named a net) e ∙ rw none)
 
-    handler-there : (p : ℕ) → first (h .block) ≡ suc p → isThere (suc p) net ≡ true → handler net tg ≡ station (suc p) (tableAt (suc p) net)
+    pub handler-there : (a : ℕ) → first (h .block) ≡ a → (a ≡ 0 → ⊥) → isThere a net ≡ true → handler net tg ≡ station a (tableAt a net)
     unfolding named
-    handler-there p e there = handler-read ∙ ap (λ (a : ℕ). named a net) e ∙ rw there
+    handler-there zero e n there = absurd (n refl)
+    handler-there (suc p) e n there = handler-read ∙ ap (λ (a : ℕ). named a net) e ∙ rw there
 
 -- the journey of a telegram goes on with x, in a net that may be another one
 abbrev pub GoesOn : Net → List ℕ → Net → List ℕ → Type 0
@@ -70,7 +73,7 @@ module _ (net : Net) (a : ℕ) (t tg out : List ℕ) (room : callOutput ≤ leng
 pub stop-nobody : (net : Net) {form : Form} {b body : List ℕ} → Faultless form b body → (p : ℕ) → first b ≡ suc p → isThere (suc p) net ≡ false →
     (f : Function) (c : ℕ) → (let tg = telegramFor f c form b body in Journey net tg (unheard tg net atNobody))
 stop-nobody net {form} {b} {body} w p mine none f c =
-    ends-nobody net (telegramFor f c form b body) (remarked (head f c form b)) (reads-well f c w) p (first-is f c w mine) none
+    ends-nobody net (telegramFor f c form b body) (remarked (head f c form b)) (reads-well f c w) (suc p) (first-is f c w mine) (λ z. omega arith) none
 
 -- or a station's
 module _ (out : List ℕ) (room : callOutput ≤ length out) (net : Net) (fit : goodNet net ≡ true) {form : Form} {b body : List ℕ}
@@ -83,7 +86,7 @@ module _ (out : List ℕ) (room : callOutput ≤ length out) (net : Net) (fit : 
 
   module _ (f : Function) (c : ℕ) where
     called : handler net (telegramFor f c form b body) ≡ station (suc p) (tableAt (suc p) net)
-    called = handler-there net (telegramFor f c form b body) (remarked (head f c form b)) (reads-well f c w) p (first-is f c w mine) there
+    called = handler-there net (telegramFor f c form b body) (remarked (head f c form b)) (reads-well f c w) (suc p) (first-is f c w mine) (λ z. omega arith) there
 
     module _ {x y : List ℕ} (same : y ≡ x) where
       -- the call gives y, and a table

@@ -1,13 +1,13 @@
 -- The telegrams of a journey: what makes one faultless, how it is shown, and what is sent of it.
 -- Assumes nothing.
-use mathlib.Core.Path.{_≡_, refl, _∙_, ap, ap₂}
+use mathlib.Core.Path.{_≡_, refl, sym, _∙_, ap, ap₂, subst}
 use mathlib.Core.Bool.{true, _&&_}
 use mathlib.Core.List.{List, _∷_}
 use Prim.Native.Nat.{ℕ, _+_, _≤_}
 use native.Mathlib.Omega.{arith}
 use lib.ListN.{length}
 use Rattle.mop_block.specs.Block.{goodBlock, first, rollLeft, rollRight}
-use Rattle.mop_header.specs.Header.{Head, head, functionByte, telegramOf, markByte, withMark, remarked, rolledLeft, rolledRight}
+use Rattle.mop_header.specs.Header.{Head, head, functionByte, telegramOf, bodyOf, markByte, withMark, remarked, rolledLeft, rolledRight}
 use Rattle.mop_header.specs.Header.{newControl, asReply, sentBack}
 use Rattle.mop_header.specs.Reading.{Reading, sound, allowed, goodFor, maxTelegram, reading}
 use Rattle.mop_header.specs.ReadBack.{sized, InOrder}
@@ -18,9 +18,9 @@ use Rattle.mop_header.specs.declared.Form.the-variants.{Standard, Extended}
 use Rattle.mop_header.specs.declared.Reader.the-variants.{Station}
 use Rattle.mop_header.proofs.Lengths.{length-remarked, headerRoom, length-header, header-bound}
 use Rattle.mop_header.proofs.Marks.{remarked-agrees, remarked-block, marked-twice}
-use Rattle.mop_header.proofs.ReadBack.{reads-back, body-behind}
+use Rattle.mop_header.proofs.ReadBack.{reads-back, is-written, body-behind}
 use Rattle.mop_header.proofs.Writing.{length-telegram}
-use Rattle.mop_station.specs.Station.{replied}
+use Rattle.mop_station.specs.Step.{replied, maxReply}
 use Rattle.journey.specs.Terms.{shows, shownIn, shown, isFine, allFine}
 
 -- a telegram with the mark that its block asks for
@@ -35,6 +35,16 @@ pub record Faultless (form : Form) (b body : List ℕ) : Type 0 where
   pub good : goodBlock b ≡ true
   pub size : sized form (length b) ≡ true
   pub short : headerRoom form (length b) + length body ≤ maxTelegram
+
+pub sound-faultless : (tg : List ℕ) (h : Head) → reading Station tg ≡ sound h → Faultless (h .form) (h .block) (bodyOf h tg)
+unfolding goodFor
+sound-faultless tg h order =
+    let well = is-written Station tg h order in
+    record {
+      good = well .order .block;
+      size = well .order .size;
+      short = subst (λ (n : ℕ). n ≤ maxTelegram) (sym (ap length (well .whole)) ∙ length-read h (bodyOf h tg)) (well .short);
+    }
 
 pub sized-with : (form : Form) (k n : ℕ) → sized (withMark form k) n ≡ sized form n
 unfolding sized withMark
@@ -65,19 +75,19 @@ module _ (f : Function) (c : ℕ) {form : Form} {b body : List ℕ} (w : Faultle
   reads-well = reads-back Station (remarked (head f c form b)) body in-order (rw whole-length (w .short)) .0
 
   pub still-fine : (rest : List (List ℕ)) → allFine rest ≡ true → allFine (telegramFor f c form b body ∷ rest) ≡ true
-  still-fine rest e = ap (λ (r : Reading). isFine (r .finding) && allFine rest) reads-well ∙ e
+  still-fine rest e = ap (λ (r : Reading). isFine r && allFine rest) reads-well ∙ e
 
   pub shown-as : {a : ℕ} → first b ≡ a → shown (telegramFor f c form b body) ≡ shows f a body
   unfolding remarked
   shown-as e =
       let h = remarked (head f c form b) in
-      ap (λ (r : Reading). shownIn (r .finding) (r .header) (telegramOf h body)) reads-well ∙ ap₂ (shows f) e (body-behind h body)
+      ap (λ (r : Reading). shownIn r (telegramOf h body)) reads-well ∙ ap₂ (shows f) e (body-behind h body)
 
   pub first-is : {a : ℕ} → first b ≡ a → first (remarked (head f c form b) .block) ≡ a
   first-is e = ap first (remarked-block (head f c form b)) ∙ e
 
 -- with such a header a reply has room
-pub reply-short : {form : Form} {b body : List ℕ} → Faultless form b body → (reply : List ℕ) → length reply ≤ 19 →
+pub reply-short : {form : Form} {b body : List ℕ} → Faultless form b body → (reply : List ℕ) → length reply ≤ maxReply →
     headerRoom form (length b) + length reply ≤ maxTelegram
 reply-short {form} {b} w reply l =
     let h = head Request 0 form b in

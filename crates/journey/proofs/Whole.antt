@@ -2,24 +2,24 @@
 -- Assumes nothing.
 use mathlib.Core.Path.{_≡_, refl, sym, _∙_, ap, subst}
 use mathlib.Core.Logic.{_⊎_, inl, inr}
-use mathlib.Core.Bool.{true, false}
+use mathlib.Core.Bool.{true}
 use mathlib.Core.List.{List}
-use Prim.Native.Nat.{ℕ, zero, suc, _*_, _≤_, _<_}
+use Prim.Native.Nat.{ℕ, zero, suc, _*_, _≤_}
 use native.Mathlib.Omega.{arith}
 use lib.ListN.{length, replicate}
 use Rattle.mop_block.specs.Block.{first}
 use Rattle.mop_block.proofs.Stations.{named-bound}
 use Rattle.mop_header.specs.Header.{Head, bodyOf}
-use Rattle.mop_header.specs.Reading.{Finding, fine, fault, sound, goodFor, reading}
+use Rattle.mop_header.specs.Reading.{Reading, sound, faulty, goodFor, reading}
 use Rattle.mop_header.specs.declared.Reader.the-variants.{Station}
 use Rattle.mop_header.proofs.Lengths.{sized-most}
-use Rattle.mop_header.proofs.ReadBack.{is-written, reading-fine}
-use Rattle.journey.specs.Net.{Net, goodNet, isThere, tableAt, withTable}
-use Rattle.journey.specs.Journey.{Ending, atNobody, refusedWith, Course, unheard, callOutput, Journey}
+use Rattle.mop_header.proofs.ReadBack.{is-written}
+use Rattle.journey.specs.Net.{Net, goodNet, tableAt, withTable}
+use Rattle.journey.specs.Journey.{Ending, refusedWith, Course, unheard, callOutput, Journey}
 use Rattle.journey.specs.Terms.{m, beforeZeros, WrittenBy}
 use Rattle.journey.specs.Demand3.{Carried, Demand3, TheJourney, EveryJourney}
 use Rattle.journey.specs.Transmissions.{ByteForByte}
-use Rattle.journey.specs.Bounded.{mostTransmissions, PlaysTheJourney}
+use Rattle.journey.specs.Bounded.{mostNamed, NamesAtMost31, mostTransmissions, AtMost62, PlaysTheJourney}
 use Rattle.journey.proofs.Net.{table-other, table-same, good-table}
 use Rattle.journey.proofs.Passage.{Carries}
 use Rattle.mop_header.specs.declared.Function.the-variants.{Request}
@@ -32,12 +32,6 @@ use Rattle.journey.proofs.Steps.{ends-faulty, ends-zero, ends-nobody}
 use Rattle.journey.proofs.Courses.{stations-stay, given-by, last-refused, sent-each}
 use Rattle.journey.proofs.Start.{Ran, Start, start}
 use Rattle.journey.proofs.Fresh.{writes-all, fulfilled, in-bytes}
-
--- a first entry that is an address, but nobody's
-nobody-first : (net : Net) (tg : List ℕ) (h : Head) → reading Station tg ≡ sound h →
-    (a : ℕ) → first (h .block) ≡ a → (a ≡ 0 → ⊥) → isThere a net ≡ false → Journey net tg (unheard tg net atNobody)
-nobody-first net tg h order zero e n none = absurd (n refl)
-nobody-first net tg h order (suc p) e n none = ends-nobody net tg h order p e none
 
 -- where one table at most changed, the others are as before
 other-kept : {F : Type 0} (net after : Net) (a d : ℕ) (body : List ℕ) → (after ≡ net) ⊎ (F × Carries net d body after) → (a ≡ d → ⊥) → tableAt a after ≡ tableAt a net
@@ -69,9 +63,9 @@ module _ (net : Net) (tg : List ℕ) (fit : goodNet net ≡ true) where
   ran : {c : Course} → Journey net tg c → (h : Head) → reading Station tg ≡ sound h → Ran net h (bodyOf h tg) c
   ran j h order = let s = started h order in subst (Ran net h (bodyOf h tg)) (unique (s .journey) j) (s .ran)
 
-  refused-kept : {c : Course} → Journey net tg c → (v : Finding) → reading Station tg .finding ≡ v → (k : ℕ) → c .ending ≡ refusedWith k → c .after ≡ net
-  refused-kept j (fault k) e n r = ap (λ (d : Course). d .after) (unique j (ends-faulty net tg k e))
-  refused-kept j fine e n r = ran j (reading Station tg .header) (reading-fine Station tg e) .refused-keeps n r
+  refused-kept : {c : Course} → Journey net tg c → (r : Reading) → reading Station tg ≡ r → (k : ℕ) → c .ending ≡ refusedWith k → c .after ≡ net
+  refused-kept j (faulty k) e n is = ap (λ (d : Course). d .after) (unique j (ends-faulty net tg k e))
+  refused-kept j (sound h) e n is = ran j h e .refused-keeps n is
 
   demand3 : {c : Course} → Journey net tg c → Demand3 net tg c
   demand3 {c} j = record {
@@ -79,7 +73,7 @@ module _ (net : Net) (tg : List ℕ) (fit : goodNet net ≡ true) where
     fault-ends = λ k e. unique j (ends-faulty net tg k e);
     none-named = λ h order e. unique j (ends-zero net tg h order (none-named (h .block) e));
     zero-first = λ h order e. unique j (ends-zero net tg h order e);
-    nobodys-first = λ h order n none. unique j (nobody-first net tg h order (first (h .block)) refl n none);
+    nobodys-first = λ h order n none. unique j (ends-nobody net tg h order (first (h .block)) refl n none);
     at-most = λ h order some. ran j h order .most some;
     refused-last = λ earlier later k e. last-refused later k j earlier e;
     refused-by = λ h order k e. given-by j (ran j h order .fine) k e;
@@ -91,7 +85,7 @@ module _ (net : Net) (tg : List ℕ) (fit : goodNet net ≡ true) where
     others-kept = λ h order a n. other-kept net (c .after) a (beforeZeros (h .block)) (bodyOf h tg) (ran j h order .changes) n;
     same-stations = stations-stay j;
     sent-next = sent-each j;
-    refused-keeps = refused-kept j (reading Station tg .finding) refl;
+    refused-keeps = refused-kept j (reading Station tg) refl;
     all-fine = λ h order. ran j h order .fine;
     all-ordinary = λ h order. ran j h order .plain;
   }
@@ -100,39 +94,44 @@ module _ (net : Net) (tg : List ℕ) (fit : goodNet net ≡ true) where
   given {c} j = record { course = c; journey = j; only = λ d k. unique k j; demand3 = demand3 j }
 
   -- by what reading says
-  by-finding : (v : Finding) → reading Station tg .finding ≡ v → TheJourney net tg
-  by-finding (fault k) e = given (ends-faulty net tg k e)
-  by-finding fine e = given (started (reading Station tg .header) (reading-fine Station tg e) .journey)
+  by-reading : (r : Reading) → reading Station tg ≡ r → TheJourney net tg
+  by-reading (faulty k) e = given (ends-faulty net tg k e)
+  by-reading (sound h) e = given (started h e .journey)
 
 pub every-journey : EveryJourney
-every-journey net tg fit = by-finding net tg fit (reading Station tg .finding) refl
+every-journey net tg fit = by-reading net tg fit (reading Station tg) refl
 
 pub byte-for-byte : ByteForByte
 byte-for-byte net tg c fit j h order fresh all verdict =
     in-bytes net h (bodyOf h tg) c (ran net tg fit j h order .fresh fresh all verdict) (fresh .request) (is-written Station tg h order .order .mark)
 
--- the bound
-sixty-two : (x n k : ℕ) → x ≤ 2 * n → n < k → k ≤ 32 → x ≤ mostTransmissions
-sixty-two x n k a b c = omega arith
+-- the bounds
+pub names-at-most-31 : NamesAtMost31
+unfolding goodFor
+names-at-most-31 tg h order =
+    let well = is-written Station tg h order in
+    let some-zero = named-bound (h .block) (well .order .block) in
+    let entries = sized-most (h .form) (length (h .block)) (well .order .size) in
+    omega arith
+
+twice : (x n : ℕ) → x ≤ 2 * n → n ≤ mostNamed → x ≤ mostTransmissions
+twice x n a b = omega arith
 
 one-transmission : {c : Course} (tg : List ℕ) (net : Net) {e : Ending} → c ≡ unheard tg net e → length (c .transmissions) ≤ mostTransmissions
 one-transmission tg net e = rw e (omega arith)
 
 module _ (net : Net) (tg : List ℕ) (c : Course) (d : Demand3 net tg c) where
-  named-most : (h : Head) → reading Station tg ≡ sound h → (n : ℕ) → m h ≡ n → length (c .transmissions) ≤ mostTransmissions
-  unfolding goodFor
-  named-most h order zero e = one-transmission tg net (d .none-named h order e)
-  named-most h order (suc n) e =
-      let well = is-written Station tg h order in
-      sixty-two (length (c .transmissions)) (m h) (length (h .block)) (d .at-most h order (rw e (omega arith)))
-      (named-bound (h .block) (well .order .block)) (sized-most (h .form) (length (h .block)) (well .order .size))
+  most-named : (h : Head) → reading Station tg ≡ sound h → (n : ℕ) → m h ≡ n → length (c .transmissions) ≤ mostTransmissions
+  most-named h order zero e = one-transmission tg net (d .none-named h order e)
+  most-named h order (suc n) e =
+      twice (length (c .transmissions)) (m h) (d .at-most h order (rw e (omega arith))) (names-at-most-31 tg h order)
 
-  most-by : (v : Finding) → reading Station tg .finding ≡ v → length (c .transmissions) ≤ mostTransmissions
-  most-by (fault k) e = one-transmission tg net (d .fault-ends k e)
-  most-by fine e = let h = reading Station tg .header in named-most h (reading-fine Station tg e) (m h) refl
+  most-by : (r : Reading) → reading Station tg ≡ r → length (c .transmissions) ≤ mostTransmissions
+  most-by (faulty k) e = one-transmission tg net (d .fault-ends k e)
+  most-by (sound h) e = most-named h e (m h) refl
 
-pub at-most-62 : (net : Net) (tg : List ℕ) (c : Course) → goodNet net ≡ true → Journey net tg c → length (c .transmissions) ≤ mostTransmissions
-at-most-62 net tg c fit j = most-by net tg c (demand3 net tg fit j) (reading Station tg .finding) refl
+pub at-most-62 : AtMost62
+at-most-62 net tg c fit j = most-by net tg c (demand3 net tg fit j) (reading Station tg) refl
 
 pub plays-the-journey : PlaysTheJourney
 plays-the-journey net tg fit =

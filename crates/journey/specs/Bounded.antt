@@ -1,13 +1,31 @@
--- The journey as a function, with a bound on its transmissions: what a program can play.
+-- The most transmissions of a journey; and the journey as a function, with that bound: what a program can play.
 -- Assumes nothing.
-use Prim.Native.Nat.{ℕ, zero, suc}
+use Prim.Native.Nat.{ℕ, zero, suc, _≤_}
 use mathlib.Core.Path.{_≡_}
 use mathlib.Core.Bool.{true}
 use mathlib.Core.List.{List}
-use lib.ListN.{take, replicate}
+use lib.ListN.{length, take, replicate}
+use Rattle.mop_header.specs.Header.{Head}
+use Rattle.mop_header.specs.Reading.{sound, reading}
+use Rattle.mop_header.specs.declared.Reader.the-variants.{Station}
 use Rattle.mop_station.specs.Station.{Handled, sent, notMine, refuses, Handling, handling}
 use Rattle.journey.specs.Net.{Net, goodNet}
 use Rattle.journey.specs.Journey.{atZero, atNobody, Handler, noStation, station, handler, Course, unheard, refusal, onward, callOutput, leftBy, Journey}
+use Rattle.journey.specs.Terms.{m}
+
+-- the most stations that a telegram without a fault in its header names: 32 entries, and one of them is 00
+abbrev pub mostNamed : ℕ
+mostNamed = 31
+
+abbrev pub NamesAtMost31 : Type 0
+NamesAtMost31 = (tg : List ℕ) (h : Head) → reading Station tg ≡ sound h → m h ≤ mostNamed
+
+-- the most transmissions of a journey: 31 stations, out and back
+abbrev pub mostTransmissions : ℕ
+mostTransmissions = 62
+
+abbrev pub AtMost62 : Type 0
+AtMost62 = (net : Net) (tg : List ℕ) (c : Course) → goodNet net ≡ true → Journey net tg c → length (c .transmissions) ≤ mostTransmissions
 
 -- the call of a station, with an output of 00s
 unfoldable pub calling : ℕ → List ℕ → List ℕ → Handling
@@ -26,15 +44,11 @@ abbrev pub heardBy : (Net → List ℕ → Course) → Net → List ℕ → Hand
 heardBy rest net tg (noStation e) = unheard tg net e
 heardBy rest net tg (station a t) = called rest net tg a (calling a t tg)
 
--- at most so many transmissions are looked at. Where none is left the journey is given as ended; the bound below is never used up
+-- at most so many transmissions are looked at. Where none is left the journey is given as ended; the bound above is never used up
 unfoldable pub playing : ℕ → Net → List ℕ → Course
 playing zero net tg = unheard tg net atZero
 playing (suc calls) net tg = heardBy (playing calls) net tg (handler net tg)
 
--- the most transmissions of a journey: 31 stations, out and back
-abbrev pub mostTransmissions : ℕ
-mostTransmissions = 62
-
--- the bound is enough: for every good net and every list of bytes this is the journey
+-- with that bound, for every good net and every list of bytes, this is the journey
 abbrev pub PlaysTheJourney : Type 0
 PlaysTheJourney = (net : Net) (tg : List ℕ) → goodNet net ≡ true → Journey net tg (playing mostTransmissions net tg)

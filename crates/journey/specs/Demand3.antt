@@ -9,7 +9,7 @@ use lib.ListN.{length}
 use Rattle.registers.specs.Rows.{tableLength}
 use Rattle.mop_block.specs.Block.{isAddress, stations, first}
 use Rattle.mop_header.specs.Header.{Head, bodyOf}
-use Rattle.mop_header.specs.Reading.{fault, sound, reading}
+use Rattle.mop_header.specs.Reading.{sound, faulty, reading}
 use Rattle.mop_header.specs.declared.Reader.the-variants.{Station}
 use Rattle.mop_station.specs.Body.{accepts, rejects, judgedBody, replyBody}
 use Rattle.mop_station.specs.Station.{Handled, sent, refuses, leaving, handling}
@@ -45,9 +45,9 @@ pub record Carried (net : Net) (h : Head) (body : List ℕ) (c : Course) : Type 
 pub record Demand3 (net : Net) (tg : List ℕ) (c : Course) : Type 0 where
   -- a fault in the header, 12 or one of 2 to 6: every station refuses the telegram in the same way, the journey ends with it, and
   -- nothing changes
-  pub fault-refused : (k : ℕ) → reading Station tg .finding ≡ fault k → (own : ℕ) (t out : List ℕ) → isAddress own ≡ true → length t ≡ tableLength →
+  pub fault-refused : (k : ℕ) → reading Station tg ≡ faulty k → (own : ℕ) (t out : List ℕ) → isAddress own ≡ true → length t ≡ tableLength →
       handling own t tg out ≡ leaving (refuses k) t out
-  pub fault-ends : (k : ℕ) → reading Station tg .finding ≡ fault k → c ≡ unheard tg net (refusedWith k)
+  pub fault-ends : (k : ℕ) → reading Station tg ≡ faulty k → c ≡ unheard tg net (refusedWith k)
   -- where m is 0, or the first entry is 00 or nobody's, none follows, and nothing changes
   pub none-named : (h : Head) → reading Station tg ≡ sound h → m h ≡ 0 → c ≡ unheard tg net atZero
   pub zero-first : (h : Head) → reading Station tg ≡ sound h → first (h .block) ≡ 0 → c ≡ unheard tg net atZero

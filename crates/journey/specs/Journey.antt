@@ -6,7 +6,7 @@ use mathlib.Core.List.{List, [], _∷_}
 use lib.ListN.{length, take}
 use Rattle.base.specs.Choice.{pick}
 use Rattle.mop_block.specs.Block.{first}
-use Rattle.mop_header.specs.Reading.{Finding, fine, fault, reading}
+use Rattle.mop_header.specs.Reading.{Reading, sound, faulty, reading}
 use Rattle.mop_header.specs.declared.Reader.the-variants.{Station}
 use Rattle.mop_station.specs.Station.{Handled, sent, refuses, Handling, handling}
 use Rattle.journey.specs.Net.{Net, isThere, tableAt, withTable}
@@ -29,12 +29,12 @@ named (suc a) net = pick (isThere (suc a) net) (station (suc a) (tableAt (suc a)
 
 -- a telegram with a fault of its header, 12 or 2 to 6, has no first entry: every station refuses it, with the same number. Any
 -- other is for the station that its first block entry names
-unfoldable pub addressee : Finding → ℕ → Net → Handler
-addressee (fault k) a net = noStation (refusedWith k)
-addressee fine a net = named a net
+unfoldable pub addressee : Reading → Net → Handler
+addressee (faulty k) net = noStation (refusedWith k)
+addressee (sound h) net = named (first (h .block)) net
 
 unfoldable pub handler : Net → List ℕ → Handler
-handler net tg = addressee (reading Station tg .finding) (first (reading Station tg .header .block)) net
+handler net tg = addressee (reading Station tg) net
 
 -- what a journey comes to: its transmissions in order, the first telegram included; what the stations called with them gave,
 -- one for each but a last one that no station was called with; the net afterwards; and how it ended

@@ -9,7 +9,7 @@ use lib.ListN.{length, getD}
 use Rattle.registers.specs.Rows.{placeOf}
 use Rattle.mop_block.specs.Block.{stations, around, first}
 use Rattle.mop_header.specs.Header.{Head, bodyOf}
-use Rattle.mop_header.specs.Reading.{Finding, fine, fault, reading}
+use Rattle.mop_header.specs.Reading.{Reading, sound, faulty, reading}
 use Rattle.mop_header.specs.declared.Function.{Function}
 use Rattle.mop_header.specs.declared.Function.the-variants.{Request, Reply}
 use Rattle.mop_header.specs.declared.Reader.the-variants.{Station}
@@ -43,12 +43,12 @@ pub data Shown : Type 0 where
   shows : Function → ℕ → List ℕ → Shown
   unreadable : Shown
 
-abbrev pub shownIn : Finding → Head → List ℕ → Shown
-shownIn fine h tg = shows (h .function) (first (h .block)) (bodyOf h tg)
-shownIn (fault k) h tg = unreadable
+abbrev pub shownIn : Reading → List ℕ → Shown
+shownIn (sound h) tg = shows (h .function) (first (h .block)) (bodyOf h tg)
+shownIn (faulty k) tg = unreadable
 
 abbrev pub shown : List ℕ → Shown
-shown tg = shownIn (reading Station tg .finding) (reading Station tg .header) tg
+shown tg = shownIn (reading Station tg) tg
 
 -- out in order and back in reverse: requests with stations 1 to m first, then replies with stations m - 1 down to 1 first, and
 -- at last one with 00 first
@@ -94,10 +94,10 @@ lastTelegram (tg ∷ []) = tg
 lastTelegram (tg ∷ next ∷ rest) = lastTelegram (next ∷ rest)
 
 -- whether telegrams are without a fault in their headers
-abbrev pub isFine : Finding → Bool
-isFine fine = true
-isFine (fault k) = false
+abbrev pub isFine : Reading → Bool
+isFine (sound h) = true
+isFine (faulty k) = false
 
 abbrev pub allFine : List (List ℕ) → Bool
 allFine [] = true
-allFine (tg ∷ rest) = isFine (reading Station tg .finding) && allFine rest
+allFine (tg ∷ rest) = isFine (reading Station tg) && allFine rest
