@@ -1,149 +1,255 @@
 -- A hop is one step of the journey that is played.
 -- Assumes nothing.
 use mathlib.Core.Path.{_≡_, refl, sym, _∙_, ap, subst}
-use mathlib.Core.Bool.{Bool, true, false}
-use mathlib.Core.List.{List, [], _∷_}
-use Prim.Native.Nat.{ℕ, zero, suc, _≤_}
+use mathlib.Core.Bool.{Bool, true, false, and-eq-true-iff}
+use mathlib.Core.List.{List, [], _∷_, _++_}
+use Prim.Native.Nat.{ℕ, zero, suc, _*_, _≤_, _<_}
+use native.Mathlib.Nat.{mul-le-mul-left}
 use native.Mathlib.Omega.{arith}
-use lib.ListN.{length, take}
+use borrow.Author.Tests.{leb-true, le-ltb, lt-ltb}
+use lib.Dec.{leb, ltb}
+use lib.ListN.{length, getD, take, drop}
 use Rattle.base.specs.Choice.{pick}
+use Rattle.base.proofs.Choice.{pick-either}
 use Rattle.registers.specs.Rows.{tableLength}
-use Rattle.mop_block.specs.Block.{first}
-use Rattle.mop_header.specs.Reading.{Finding, fine, fault, reading}
+use Rattle.mop_block.specs.Block.{isAddress, has, first}
+use Rattle.mop_header.specs.Header.{Head, telegramOf}
+use Rattle.mop_header.specs.Reading.{sound, reading}
+use Rattle.mop_header.specs.declared.Function.the-variants.{Request, Reply}
 use Rattle.mop_header.specs.declared.Reader.the-variants.{Station}
-use Rattle.mop_station.specs.Station.{Handled, sent, notMine, refuses, Handling, handling}
-use Rattle.journey.specs.Net.{Net, isThere, tableAt}
-use Rattle.journey.specs.Journey.{Ending, atNobody, refusedWith, Handler, noStation, station, named, addressee, handler}
-use Rattle.journey.specs.Journey.{Course, onward, callOutput, leftBy}
-use Rattle.journey.specs.Bounded.{calling, answered, heardBy, playing}
-use Rattle.journey.proofs.Bounded.{same-calling, called-same}
-use Rattle.net.specs.Tables.{netOf, tablesOf, tablesFit}
-use Rattle.net.specs.Hop.{Hopped, goesOn, ended, Hop, hop, hoppedBy, meeting, hopping}
-use Rattle.net.proofs.Tables.{length-table, tables-new-fit, net-of-new}
-use Rattle.net.proofs.Calls.{length-registers, sent-room}
+use Rattle.mop_station.specs.Step.{Stepped, notMine, refuses, Step, StepCall, stepping, lending, maxReply, stepCallOf}
+use Rattle.mop_station.specs.declared.StationStep.{StationStep}
+use Rattle.mop_station.specs.declared.StationStep.the-variants as made
+use Rattle.mop_station.specs.Step as step
+use Rattle.mop_station.specs.Station.{Handled}
+use Rattle.mop_station.specs.Station as handled
+use Rattle.journey.specs.Net.{Net, goodNet, isThere, tableAt, withTable}
+use Rattle.journey.specs.Journey.{Ending, atZero, atNobody, refusedWith, Course, onward, callOutput}
+use Rattle.journey.specs.Bounded.{playing}
+use Rattle.journey.proofs.Walks.{walk-zero, walk-nobody, walk-relayed, walk-answered, walk-refused, never-another}
+use Rattle.net.specs.Tables.{netOf, tablesFit, setUp}
+use Rattle.mop_station.proofs.Rooms.{lent-count, replies-fit}
+use Rattle.journey.proofs.Net.{good-table, good-address}
+use Rattle.net.specs.Hop.{tableOf, putTable, bytes, placesOf, Hopped, relays, answers, ended, Hop, hop, hoppedBy, hopBy, stepAt, hopAt, hopping, hopOf}
+use Rattle.mop_header.specs.declared.Header.{Header}
+use Rattle.net.specs.declared.HopAnswer.{HopAnswer}
+use Rattle.net.specs.declared.HopAnswer.the-variants.{Relayed, Answered, Ended}
+use Rattle.net.specs.declared.JourneyEnd.the-variants.{AtNobody, Refused}
+use Rattle.net.proofs.Tables.{fit-length, set-up-parts, set-up-fit, set-up-after, few-addresses, good-net, addresses-of-net, placeIn, here, table-at-place, new-net, new-fits}
+use Rattle.net.proofs.Places.{place-of, no-place}
 
--- what a hop that ends the journey says of the journey played from there
-pub record HopEnds (k : ℕ) (tg addresses tables after : List ℕ) (e : Ending) : Type 0 where
-  pub transmissions : playing (suc k) (netOf addresses tables) tg .transmissions ≡ tg ∷ []
-  pub net : playing (suc k) (netOf addresses tables) tg .after ≡ netOf addresses after
-  pub ending : playing (suc k) (netOf addresses tables) tg .ending ≡ e
-  pub fits : tablesFit addresses after ≡ true
+address-byte : (a : ℕ) → isAddress a ≡ true → a < bytes
+unfolding isAddress
+address-byte a e = omega (arith, leb-true a 0xF0 (and-eq-true-iff (leb 1 a) (leb a 0xF0) .0 e .1))
 
--- what a hop that goes on says of it
-pub record HopGoes (k : ℕ) (tg addresses tables out after output : List ℕ) (n : ℕ) : Type 0 where
-  pub plays : playing (suc k) (netOf addresses tables) tg ≡ onward tg n (playing k (netOf addresses after) (take n output))
-  pub fits : tablesFit addresses after ≡ true
-  pub room : n ≤ length out
+-- the telegram of h and body goes on as that of g and next, over other tables
+pub record Goes (addresses tables : List ℕ) (h : Head) (body after : List ℕ) (g : Head) (next : List ℕ) : Type 0 where
+  pub set : setUp addresses after ≡ true
+  pub order : reading Station (telegramOf g next) ≡ sound g
+  pub plays : (k : ℕ) → playing (suc k) (netOf addresses tables) (telegramOf h body)
+      ≡ onward (telegramOf h body) (length (telegramOf g next)) (playing k (netOf addresses after) (telegramOf g next))
 
-abbrev HopStep : ℕ → List ℕ → List ℕ → List ℕ → List ℕ → List ℕ → List ℕ → Hopped → Type 0
-HopStep k tg addresses tables out after output (ended e) = HopEnds k tg addresses tables after e
-HopStep k tg addresses tables out after output (goesOn n) = HopGoes k tg addresses tables out after output n
+-- relayed, it stays a request or a reply; answered, it was a request, and a reply comes back
+pub record GoesOn (addresses tables : List ℕ) (h : Head) (body after : List ℕ) (g : Head) : Type 0 where
+  pub goes : Goes addresses tables h body after g body
+  pub function : g .function ≡ h .function
 
--- a station that is called is there, and has that table
-record Found (net : Net) (a : ℕ) (t : List ℕ) : Type 0 where
-  pub there : isThere a net ≡ true
-  pub table : tableAt a net ≡ t
+pub record TurnsBack (addresses tables : List ℕ) (h : Head) (body after : List ℕ) (g : Head) (reply : List ℕ) : Type 0 where
+  pub goes : Goes addresses tables h body after g reply
+  pub request : h .function ≡ Request
+  pub back : g .function ≡ Reply
 
-module _ (net : Net) (a : ℕ) (t : List ℕ) where
-  not-station : {X : Type 0} {e : Ending} → noStation e ≡ station a t → X
-  not-station e = let z : _≡_ {A = ℕ} 0 1 = cc in absurd (omega arith)
+-- the journey ends with it
+abbrev pub endedBy : List ℕ → List Handled → Net → Ending → Course
+endedBy tg given net e = record { transmissions = tg ∷ []; answers = given; after = net; ending = e }
 
-  found-same : (b : ℕ) → isThere b net ≡ true → station b (tableAt b net) ≡ station a t → Found net a t
-  found-same b h e =
-      let same : b ≡ a = cc in
-      let table : tableAt b net ≡ t = cc in
-      record { there = rw (← same) h; table = ap (λ (x : ℕ). tableAt x net) (sym same) ∙ table }
+pub record Ends (addresses tables : List ℕ) (h : Head) (body after : List ℕ) (e : Ending) : Type 0 where
+  pub set : setUp addresses after ≡ true
+  pub given : List Handled
+  pub plays : (k : ℕ) → playing (suc k) (netOf addresses tables) (telegramOf h body) ≡ endedBy (telegramOf h body) given (netOf addresses after) e
 
-  found-named : (b : ℕ) (c : Bool) → isThere b net ≡ c → pick c (station b (tableAt b net)) (noStation atNobody) ≡ station a t →
-      Found net a t
-  found-named b true h e = found-same b h e
-  found-named b false h e = not-station e
+-- by what a hop gave
+abbrev pub MeansBy : List ℕ → List ℕ → Head → List ℕ → List ℕ → Hopped → Type 0
+MeansBy addresses tables h body after (relays g) = GoesOn addresses tables h body after g
+MeansBy addresses tables h body after (answers g reply) = TurnsBack addresses tables h body after g reply
+MeansBy addresses tables h body after (ended e) = Ends addresses tables h body after e
 
-  found-addressee : (v : Finding) (b : ℕ) → addressee v b net ≡ station a t → Found net a t
-  unfolding addressee named
-  found-addressee (fault k) b e = not-station e
-  found-addressee fine zero e = not-station e
-  found-addressee fine (suc b) e = found-named (suc b) (isThere (suc b) net) refl e
+abbrev pub Means : List ℕ → List ℕ → Head → List ℕ → Hop → Type 0
+Means addresses tables h body x = MeansBy addresses tables h body (x .tables) (x .hopped)
 
-  found : (tg : List ℕ) → handler net tg ≡ station a t → Found net a t
-  unfolding handler
-  found tg e = found-addressee (reading Station tg .finding) (first (reading Station tg .header .block)) e
+module _ (addresses tables : List ℕ) (set : setUp addresses tables ≡ true) (h : Head) (body : List ℕ) (order : reading Station (telegramOf h body) ≡ sound h) where
+  abbrev net : Net
+  net = netOf addresses tables
 
-module _ (k : ℕ) (tg addresses tables out : List ℕ) (fits : tablesFit addresses tables ≡ true) (room : callOutput ≤ length out) where
-  abbrev Step : Hop → Type 0
-  Step x = HopStep k tg addresses tables out (x .tables) (x .output) (x .hopped)
+  good : goodNet net ≡ true
+  good = good-net addresses tables set
 
-  -- the journey ends here
-  step-ends : (e : Ending) (answers : List Handled) (net : Net) (after : List ℕ) →
-      netOf addresses after ≡ net → tablesFit addresses after ≡ true →
-      playing (suc k) (netOf addresses tables) tg ≡ record { transmissions = tg ∷ []; answers = answers; after = net; ending = e } →
-      HopEnds k tg addresses tables after e
-  step-ends e answers net after same fit p =
-      record {
-        transmissions = ap (λ (c : Course). c .transmissions) p;
-        net = ap (λ (c : Course). c .after) p ∙ sym same;
-        ending = ap (λ (c : Course). c .ending) p;
-        fits = fit;
-      }
+  fits : tablesFit addresses tables ≡ true
+  fits = set-up-fit addresses tables set
 
-  -- no station is called
-  step-none : (e : Ending) → handler (netOf addresses tables) tg ≡ noStation e → Step (hop (ended e) tables out)
-  unfolding playing
-  step-none e h =
-      step-ends e [] (netOf addresses tables) tables refl fits (ap (heardBy (playing k) (netOf addresses tables) tg) h)
+  -- the station a makes its step
+  module _ (a : ℕ) (mine : first (h .block) ≡ a) (there : isThere a net ≡ true) {s : Step} (is : stepping a h body (tableAt a net) callOutput ≡ s) where
+    abbrev after : List ℕ
+    after = putTable (placeIn a addresses) (s .registers) tables
 
-  -- a station is called
-  module _ (a : ℕ) (t : List ℕ) (whose : handler (netOf addresses tables) tg ≡ station a t) where
-    abbrev call : Handling
-    call = handling a t tg out
+    module _ (long : length (s .registers) ≡ tableLength) where
+      left : withTable a (s .registers) net ≡ netOf addresses after
+      left = new-net a addresses tables fits there (s .registers) long
 
-    abbrev left : Net
-    left = leftBy a call (netOf addresses tables)
+      still-set : setUp addresses after ≡ true
+      still-set = set-up-after addresses tables set after (new-fits a addresses tables fits there (s .registers) long)
 
-    played : (v : Handled) → call .handled ≡ v →
-        playing (suc k) (netOf addresses tables) tg ≡ answered (playing k) left tg (call .output) v
-    unfolding playing calling
-    played v e =
-        ap (heardBy (playing k) (netOf addresses tables) tg) whose
-        ∙ called-same (playing k) (netOf addresses tables) tg a (same-calling a t tg out room) v e
+    kept-long : s .registers ≡ tableAt a net → length (s .registers) ≡ tableLength
+    kept-long e = ap length e ∙ good-table a net good there
 
-    here : Found (netOf addresses tables) a t
-    here = found (netOf addresses tables) a t tg whose
-
-    long : length (call .registers) ≡ tableLength
-    long = length-registers a t tg out ∙ ap length (sym (here .table)) ∙ length-table a addresses tables fits (here .there)
-
-    same-net : netOf addresses (tablesOf left) ≡ left
-    same-net = net-of-new a addresses tables fits (here .there) (call .registers) long
-
-    fits-new : tablesFit addresses (tablesOf left) ≡ true
-    fits-new = tables-new-fit a addresses tables fits (here .there) (call .registers) long
-
-    step-called : (v : Handled) → call .handled ≡ v → Step (hop (hoppedBy v) (tablesOf left) (call .output))
+    step-means : (x : Stepped) → s .stepped ≡ x → MeansBy addresses tables h body after (hoppedBy x)
     unfolding hoppedBy
-    step-called (sent n) e =
+    step-means (step.relays g) e =
+        let w = walk-relayed net h body order good a mine there is e in
+        let same = sym (w .same) ∙ left (kept-long (w .kept)) in
         record {
-          plays = played (sent n) e ∙ ap (λ (x : Net). onward tg n (playing k x (take n (call .output)))) (sym same-net);
-          fits = fits-new;
-          room = sent-room a t tg out n e;
+          goes = record {
+            set = still-set (kept-long (w .kept));
+            order = w .order;
+            plays = λ k. w .plays k ∙ ap (λ (n : Net). onward (telegramOf h body) (length (telegramOf g body)) (playing k n (telegramOf g body))) same;
+          };
+          function = w .function;
         }
-    step-called (refuses j) e = step-ends (refusedWith j) (refuses j ∷ []) left (tablesOf left) same-net fits-new (played (refuses j) e)
-    step-called notMine e = step-ends atNobody [] left (tablesOf left) same-net fits-new (played notMine e)
+    step-means (step.answers g reply) e =
+        let w = walk-answered net h body order good a mine there is e in
+        record {
+          goes = record {
+            set = still-set (w .long);
+            order = w .order;
+            plays = λ k. w .plays k ∙ ap (λ (n : Net). onward (telegramOf h body) (length (telegramOf g reply)) (playing k n (telegramOf g reply))) (left (w .long));
+          };
+          request = w .request;
+          back = w .is-reply;
+        }
+    step-means (refuses j) e =
+        let w = walk-refused net h body order good a mine there is e in
+        record {
+          set = still-set (kept-long (w .kept));
+          given = handled.refuses j ∷ [];
+          plays = λ k. w .plays k ∙ ap (λ (n : Net). endedBy (telegramOf h body) (handled.refuses j ∷ []) n (refusedWith j)) (sym (w .same) ∙ left (kept-long (w .kept)));
+        }
+    step-means notMine e = absurd (never-another net h body order good a mine there is e)
 
-  step-by : (m : Handler) → handler (netOf addresses tables) tg ≡ m → Step (meeting m (netOf addresses tables) tg tables out)
-  unfolding meeting
-  step-by (noStation e) h = step-none e h
-  step-by (station a t) h = step-called a t h (handling a t tg out .handled) refl
+  module _ (places : List ℕ) (known : places ≡ placesOf addresses) (reply : List ℕ) (enough : maxReply ≤ length reply) where
+    -- as the hop makes it, with the table at its place
+    called-means : (a : ℕ) → first (h .block) ≡ a → isThere a net ≡ true → Means addresses tables h body (stepAt a (placeIn a addresses) h body tables reply)
+    unfolding stepAt hopBy
+    called-means a mine there =
+        let table = table-at-place a addresses tables (here a addresses tables fits there) in
+        let made = replies-fit a h body (tableOf (placeIn a addresses) tables) callOutput reply enough in
+        rw made (step-means a mine there (ap (λ (t : List ℕ). stepping a h body t callOutput) table) _ refl)
 
-  -- a hop is one step, whatever it gives
-  hop-step : Step (hopping tg addresses tables out)
+    -- nobody is called
+    nobody-means : (e : Ending) → ((k : ℕ) → playing (suc k) net (telegramOf h body) ≡ endedBy (telegramOf h body) [] net e) →
+        Means addresses tables h body (hop (ended e) 0 tables reply)
+    nobody-means e p = record { set = set; given = []; plays = p }
+
+    there-means : (a : ℕ) → first (h .block) ≡ suc a → (there : Bool) → isThere (suc a) net ≡ there →
+        Means addresses tables h body (hopAt (suc a) (getD places (suc a) 0) h body tables reply)
+    unfolding hopAt isThere
+    there-means a mine false e =
+        let none : has (suc a) addresses ≡ false = ap (has (suc a)) (sym (addresses-of-net addresses tables)) ∙ e in
+        rw (known, no-place (suc a) addresses (few-addresses addresses tables fits) none)
+        (nobody-means atNobody (walk-nobody net h body order (suc a) mine (λ z. omega arith) e))
+    there-means a mine true e =
+        let some : has (suc a) addresses ≡ true = ap (has (suc a)) (sym (addresses-of-net addresses tables)) ∙ e in
+        let byte = address-byte (suc a) (good-address (suc a) net good e) in
+        let number = place-of (suc a) addresses (few-addresses addresses tables fits) byte (set-up-parts addresses tables set .1) some in
+        let reached = mul-le-mul-left {m = suc (placeIn (suc a) addresses)} {n = length addresses} tableLength (here (suc a) addresses tables fits e) in
+        rw (known, number, le-ltb (length tables) (tableLength * suc (placeIn (suc a) addresses)) (omega (arith, reached, fit-length addresses tables fits)))
+        (called-means (suc a) mine e)
+
+    first-means : (a : ℕ) → first (h .block) ≡ a → Means addresses tables h body (hopAt a (getD places a 0) h body tables reply)
+    unfolding hopAt
+    first-means zero e = nobody-means atZero (walk-zero net h body order e)
+    first-means (suc a) e = there-means a e (isThere (suc a) net) refl
+
+    pub hop-means : Means addresses tables h body (hopping places h body tables reply)
+    unfolding hopping
+    hop-means = first-means (first (h .block)) refl
+
+    -- by the answer of the code
+    pub means-as : (r : HopAnswer) (slice after buffer : List ℕ) → hopOf r slice after buffer ≡ hopping places h body tables reply →
+        {x : HopAnswer} → r ≡ x → Means addresses tables h body (hopOf x slice after buffer)
+    means-as r slice after buffer call e =
+        subst (λ (x : HopAnswer). Means addresses tables h body (hopOf x slice after buffer)) e (subst (Means addresses tables h body) (sym call) hop-means)
+
+-- no reply has more bytes than the buffer for it
+step-count : (a place : ℕ) (h : Head) (body tables reply : List ℕ) → stepAt a place h body tables reply .count ≤ maxReply
+unfolding stepAt hopBy
+step-count a place h body tables reply = lent-count a h body (tableOf place tables) reply callOutput
+
+at-count : (a number : ℕ) (h : Head) (body tables reply : List ℕ) → hopAt a number h body tables reply .count ≤ maxReply
+unfolding hopAt
+at-count zero number h body tables reply = omega arith
+at-count (suc a) zero h body tables reply = omega arith
+at-count (suc a) (suc place) h body tables reply =
+    pick-either (λ (x : Hop). x .count ≤ maxReply) (ltb (length tables) (tableLength * suc place)) (omega arith) (step-count (suc a) place h body tables reply)
+
+pub answered-count : (places : List ℕ) (h : Head) (body tables reply : List ℕ) (r : HopAnswer) (slice after buffer : List ℕ) →
+    hopOf r slice after buffer ≡ hopping places h body tables reply → {g : Header} {n : ℕ} → r ≡ Answered g n → n ≤ maxReply
+unfolding hopping
+answered-count places h body tables reply r slice after buffer call e =
+    subst (λ (x : HopAnswer). hopOf x slice after buffer .count ≤ maxReply) e
+    (subst (λ (x : Hop). x .count ≤ maxReply) (sym call) (at-count (first (h .block)) (getD places (first (h .block)) 0) h body tables reply))
+
+-- what the code makes of a station's answer
+abbrev givenBy : StationStep → HopAnswer
+givenBy (made.Relayed h) = Relayed h
+givenBy (made.Answered h n) = Answered h n
+givenBy made.NotMine = Ended AtNobody
+givenBy (made.Refused r) = Ended (Refused r)
+
+given-hop : (x : StationStep) (slice t buffer tables : List ℕ) (place : ℕ) →
+    hopOf (givenBy x) slice (putTable place t tables) buffer ≡ hopBy (stepCallOf x slice t buffer) place tables
+unfolding hopBy hoppedBy
+given-hop (made.Relayed h) slice t buffer tables place = refl
+given-hop (made.Answered h n) slice t buffer tables place = refl
+given-hop made.NotMine slice t buffer tables place = refl
+given-hop (made.Refused r) slice t buffer tables place = refl
+
+-- the step of the station at a place: start is where its table begins, and n the length of a table
+pub stepped-at : (own place : ℕ) (h : Head) (body tables reply : List ℕ) (r : StationStep) (slice t buffer : List ℕ) {start n : ℕ} →
+    start ≡ tableLength * place → n ≡ tableLength →
+    stepCallOf r slice t buffer ≡ lending (stepping own h body (take n (drop start tables)) callOutput) (take n (drop start tables)) reply →
+    {x : StationStep} → r ≡ x → hopOf (givenBy x) slice (take start tables ++ (t ++ drop n (drop start tables))) buffer ≡ stepAt own place h body tables reply
+unfolding stepAt putTable tableOf
+stepped-at own place h body tables reply r slice t buffer es en call {x} e =
+    rw (es, en, ← e) (given-hop r slice t buffer tables place ∙ ap (λ (c : StepCall). hopBy c place tables) (rw (es, en) at call))
+
+-- by the first entry and its number in the table of places
+module _ (places : List ℕ) (h : Head) (body tables reply : List ℕ) {a number : ℕ} (entry : a ≡ first (h .block)) (found : number ≡ getD places a 0) where
+  at-first : hopping places h body tables reply ≡ hopAt a number h body tables reply
   unfolding hopping
-  hop-step = rw fits (step-by (handler (netOf addresses tables) tg) refl)
+  at-first = rw (← entry, ← found)
 
-  pub hop-ends : (e : Ending) (after output : List ℕ) → hopping tg addresses tables out ≡ hop (ended e) after output →
-      HopEnds k tg addresses tables after e
-  hop-ends e after output h = subst Step h hop-step
+  at-nobody : (b : ℕ) → (b ≡ 0 → ⊥) → hopAt b 0 h body tables reply ≡ hop (ended atNobody) 0 tables reply
+  unfolding hopAt
+  at-nobody zero n = absurd (n refl)
+  at-nobody (suc b) n = refl
 
-  pub hop-goes : (n : ℕ) (after output : List ℕ) → hopping tg addresses tables out ≡ hop (goesOn n) after output →
-      HopGoes k tg addresses tables out after output n
-  hop-goes n after output h = subst Step h hop-step
+  at-place : (b place : ℕ) → (b ≡ 0 → ⊥) → hopAt b (suc place) h body tables reply
+      ≡ pick (ltb (length tables) (tableLength * suc place)) (hop (ended atNobody) 0 tables reply) (stepAt b place h body tables reply)
+  unfolding hopAt
+  at-place zero place n = absurd (n refl)
+  at-place (suc b) place n = refl
+
+  pub hop-zero : a ≡ 0 → hop (ended atZero) 0 tables reply ≡ hopping places h body tables reply
+  unfolding hopAt
+  hop-zero e = sym (at-first ∙ rw e)
+
+  module _ (some : a ≡ 0 → ⊥) where
+    pub hop-nobody : number ≡ 0 → hop (ended atNobody) 0 tables reply ≡ hopping places h body tables reply
+    hop-nobody e = sym (at-first ∙ rw e (at-nobody a some))
+
+    module _ (place : ℕ) (e : number ≡ suc place) where
+      pub hop-beyond : length tables < tableLength * suc place → hop (ended atNobody) 0 tables reply ≡ hopping places h body tables reply
+      hop-beyond l = sym (at-first ∙ rw e (at-place a place some ∙ rw (lt-ltb (length tables) (tableLength * suc place) l)))
+
+      pub hop-there : tableLength * suc place ≤ length tables → stepAt a place h body tables reply ≡ hopping places h body tables reply
+      hop-there l = sym (at-first ∙ rw e (at-place a place some ∙ rw (le-ltb (length tables) (tableLength * suc place) l)))

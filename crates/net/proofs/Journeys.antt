@@ -1,9 +1,8 @@
 -- A dry run that is not refused gives the one journey of its net.
 -- Assumes nothing.
-use mathlib.Core.Path.{_∙_, ap}
-use Rattle.mop_header.specs.Reading.{Finding}
+use mathlib.Core.Path.{sym, _∙_, ap}
 use Rattle.mop_header.specs.declared.Reader.the-variants.{Station}
-use Rattle.mop_header.proofs.ReadBack.{fine-short}
+use Rattle.mop_header.proofs.ReadBack.{is-written}
 use Rattle.journey.specs.Journey.{Course}
 use Rattle.journey.specs.Bounded.{playing, mostTransmissions}
 use Rattle.journey.proofs.Whole.{every-journey, plays-the-journey}
@@ -14,14 +13,13 @@ use Rattle.net.proofs.DryRuns.{run-by}
 
 pub runs-the-journey : RunsTheJourney
 unfolding runOf
-runs-the-journey tg addresses tables out set room e =
+runs-the-journey tg addresses tables out h set room e =
     let net = netOf addresses tables in
     let good = good-net addresses tables set in
     let the = every-journey net tg good in
     record {
       journey = the;
       gives =
-          run-by tg addresses tables out set (fine-short Station tg e) room
-          ∙ ap (λ (v : Finding). runOf v tg addresses tables out) e
+          run-by tg addresses tables out set (is-written Station tg h e .short) room (sym e)
           ∙ ap (λ (c : Course). ofCourse c out) (the .only (playing mostTransmissions net tg) (plays-the-journey net tg good));
     }

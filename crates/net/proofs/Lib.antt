@@ -1,16 +1,7 @@
 pub mod Tables
-mod Places
-mod Calls
-mod Meetings
+pub mod Places
 pub mod Hops
-mod Flags
-mod Relays
-mod Courses
+pub mod Legs
 pub mod Outputs
-mod Turns
-mod Passages
-mod Ways
-mod Arrivals
-mod Plays
-mod DryRuns
+pub mod DryRuns
 pub mod Journeys

@@ -6,17 +6,16 @@ use mathlib.Core.List.{List, [], _∷_, _++_, append-assoc}
 use Prim.Native.Nat.{ℕ, suc, _+_, _*_, _≤_, _<_}
 use native.Mathlib.Nat.{add-comm, mul-suc, mul-le-mul-left}
 use native.Mathlib.Omega.{arith}
-use borrow.Author.Tests.{eqb-true, eq-eqb, ltb-true, lt-ltb, lt-leb, le-leb}
+use borrow.Author.Tests.{eqb-true, eq-eqb, ne-eqb, leb-true, ltb-true, lt-ltb, lt-leb, le-leb}
 use lib.Dec.{eqb, leb, ltb, leb·suc-suc}
 use lib.ListN.{length, take, drop, length-append, length-take, length-drop, take-append-drop, drop-of-length-le}
 use lib.Seq.{length-take-le, take-at, drop-at, drop-drop, take-add}
 use Rattle.base.specs.Choice.{pick}
 use Rattle.registers.specs.Rows.{tableLength}
-use Rattle.registers.proofs.Places.{table-length}
 use Rattle.mop_block.specs.Block.{has, distinctAddresses}
 use Rattle.journey.specs.Net.{NetStation, Net, addressesOf, rightTables, goodNet, isThere, tableAt, withTable}
 use Rattle.net.specs.Tables.{netOf, tablesOf, maxStations, tablesFit, setUp}
-use Rattle.net.specs.Place.{placeIn}
+use Rattle.net.specs.Hop.{tableOf, putTable}
 use Rattle.net.specs.DryRun.{SameTables}
 
 module _ (addresses tables : List ℕ) where
@@ -27,29 +26,42 @@ module _ (addresses tables : List ℕ) where
       let l = length addresses in
       eqb-true (length tables) (tableLength * l) (and-eq-true-iff (leb l maxStations) (eqb (length tables) (tableLength * l)) .0 e .1)
 
-  pub fit-size : tablesFit addresses tables ≡ true → length tables ≡ 18 * length addresses
-  fit-size e = rw table-length at (fit-length e)
-
-  -- too many addresses, or else the length decides
-  pub too-many : maxStations < length addresses → tablesFit addresses tables ≡ false
-  unfolding tablesFit
+  -- too many addresses, tables of another length, or else the addresses decide
+  pub too-many : maxStations < length addresses → setUp addresses tables ≡ false
+  unfolding setUp tablesFit
   too-many h = rw (lt-leb (length addresses) maxStations h)
 
-  pub length-decides : length addresses ≤ maxStations → tablesFit addresses tables ≡ eqb (length tables) (tableLength * length addresses)
-  unfolding tablesFit
-  length-decides h = rw (le-leb (length addresses) maxStations h)
+  module _ (few : length addresses ≤ maxStations) where
+    pub unfit : (length tables ≡ tableLength * length addresses → ⊥) → setUp addresses tables ≡ false
+    unfolding setUp tablesFit
+    unfit n = rw (le-leb (length addresses) maxStations few, ne-eqb (length tables) (tableLength * length addresses) n)
+
+    pub addresses-decide : length tables ≡ tableLength * length addresses → setUp addresses tables ≡ distinctAddresses addresses
+    unfolding setUp tablesFit
+    addresses-decide e = rw (le-leb (length addresses) maxStations few, eq-eqb (length tables) (tableLength * length addresses) e)
 
   -- and tables of that length fit too
   fit-same : (after : List ℕ) → length after ≡ length tables → tablesFit addresses tables ≡ true → tablesFit addresses after ≡ true
   unfolding tablesFit
   fit-same after e fits = rw e fits
 
-  set-up-parts : setUp addresses tables ≡ true → (tablesFit addresses tables ≡ true) × (distinctAddresses addresses ≡ true)
+  pub set-up-parts : setUp addresses tables ≡ true → (tablesFit addresses tables ≡ true) × (distinctAddresses addresses ≡ true)
   unfolding setUp
   set-up-parts e = and-eq-true-iff (tablesFit addresses tables) (distinctAddresses addresses) .0 e
 
   pub set-up-fit : setUp addresses tables ≡ true → tablesFit addresses tables ≡ true
   set-up-fit e = set-up-parts e .0
+
+  -- so other tables that fit are set up rightly too
+  pub set-up-after : setUp addresses tables ≡ true → (after : List ℕ) → tablesFit addresses after ≡ true → setUp addresses after ≡ true
+  unfolding setUp
+  set-up-after e after fits = rw (fits, set-up-parts e .1)
+
+  pub few-addresses : tablesFit addresses tables ≡ true → length addresses ≤ maxStations
+  unfolding tablesFit
+  few-addresses e =
+      let l = length addresses in
+      leb-true l maxStations (and-eq-true-iff (leb l maxStations) (eqb (length tables) (tableLength * l)) .0 e .0)
 
 -- the first of n + 1 tables, and the tables behind it
 module _ (n : ℕ) where
@@ -97,6 +109,11 @@ good-net addresses tables e =
     let both = set-up-parts addresses tables e in
     rw (addresses-of-net addresses tables, both .1) (right-net addresses tables (fit-length addresses tables (both .0)))
 
+-- how many addresses stand before one; all of them where it is not there
+abbrev pub placeIn : ℕ → List ℕ → ℕ
+placeIn a [] = 0
+placeIn a (x ∷ xs) = pick (eqb a x) 0 (suc (placeIn a xs))
+
 -- an address is there if it has a place
 has-first : (a : ℕ) (rest : List ℕ) → has a rest ≡ ltb (placeIn a rest) (length rest) → (c : Bool) →
     (c || has a rest) ≡ ltb (pick c 0 (suc (placeIn a rest))) (suc (length rest))
@@ -104,7 +121,7 @@ has-first a rest more true = sym (lt-ltb 0 (suc (length rest)) (omega arith))
 has-first a rest more false = more ∙ sym (leb·suc-suc (suc (placeIn a rest)) (length rest))
 
 has-place : (a : ℕ) (addresses : List ℕ) → has a addresses ≡ ltb (placeIn a addresses) (length addresses)
-unfolding has placeIn
+unfolding has
 has-place a [] = refl
 has-place a (x ∷ rest) = has-first a rest (has-place a rest) (eqb a x)
 
@@ -112,15 +129,9 @@ pub there-place : (a : ℕ) (addresses tables : List ℕ) → isThere a (netOf a
 unfolding isThere
 there-place a addresses tables = ap (has a) (addresses-of-net addresses tables) ∙ has-place a addresses
 
--- where the table of a place begins, that table, and the tables with another one there
-abbrev pub startOf : ℕ → ℕ
+-- where the table of a place begins
+abbrev startOf : ℕ → ℕ
 startOf place = tableLength * place
-
-abbrev pub partAt : ℕ → List ℕ → List ℕ
-partAt place tables = take tableLength (drop (startOf place) tables)
-
-abbrev pub putAt : ℕ → List ℕ → List ℕ → List ℕ
-putAt place t tables = take (startOf place) tables ++ (t ++ drop tableLength (drop (startOf place) tables))
 
 start-zero : startOf 0 ≡ 0
 unfolding tableLength
@@ -129,10 +140,12 @@ start-zero = refl
 drop-step : (n : ℕ) (tables : List ℕ) → drop (startOf (suc n)) tables ≡ drop (startOf n) (drop tableLength tables)
 drop-step n tables = ap (λ (k : ℕ). drop k tables) (table-step n) ∙ sym (drop-drop (startOf n) tableLength tables)
 
-put-zero : (t tables : List ℕ) → putAt 0 t tables ≡ t ++ drop tableLength tables
+put-zero : (t tables : List ℕ) → putTable 0 t tables ≡ t ++ drop tableLength tables
+unfolding putTable
 put-zero t tables = ap (λ (k : ℕ). take k tables ++ (t ++ drop tableLength (drop k tables))) start-zero
 
-put-step : (n : ℕ) (t tables : List ℕ) → putAt (suc n) t tables ≡ take tableLength tables ++ putAt n t (drop tableLength tables)
+put-step : (n : ℕ) (t tables : List ℕ) → putTable (suc n) t tables ≡ take tableLength tables ++ putTable n t (drop tableLength tables)
+unfolding putTable
 put-step n t tables =
     ap₂ (λ (u v : List ℕ). u ++ (t ++ drop tableLength v))
     (ap (λ (k : ℕ). take k tables) (table-step n) ∙ take-add tableLength (startOf n) tables) (drop-step n tables)
@@ -141,13 +154,14 @@ put-step n t tables =
 
 -- one of k tables
 module _ (n k : ℕ) (tables : List ℕ) (h : n < k) (e : length tables ≡ tableLength * k) where
-  pub length-part : length (partAt n tables) ≡ tableLength
+  pub length-part : length (tableOf n tables) ≡ tableLength
+  unfolding tableOf
   length-part =
       let ends = mul-le-mul-left {m = suc n} {n = k} tableLength h in
       length-take-le tableLength (drop (startOf n) tables) (omega (arith, table-step n, ends, length-drop (startOf n) tables))
 
-  length-put : (t : List ℕ) → length t ≡ tableLength → length (putAt n t tables) ≡ length tables
-  unfolding tableLength
+  length-put : (t : List ℕ) → length t ≡ tableLength → length (putTable n t tables) ≡ length tables
+  unfolding tableLength putTable
   length-put t l = simp (length-append, length-take, length-drop) (omega arith)
 
 -- the table at an address is the one at its place: the first, or one behind it
@@ -161,36 +175,37 @@ module _ (a x : ℕ) (rest tables : List ℕ) where
   abbrev place : Bool → ℕ
   place c = pick c 0 (suc (placeIn a rest))
 
-  table-first : (placeIn a rest < length rest → tableAt a (netOf rest later) ≡ partAt (placeIn a rest) later) →
-      (c : Bool) → place c < suc (length rest) → pick c (take tableLength tables) (tableAt a (netOf rest later)) ≡ partAt (place c) tables
+  table-first : (placeIn a rest < length rest → tableAt a (netOf rest later) ≡ tableOf (placeIn a rest) later) →
+      (c : Bool) → place c < suc (length rest) → pick c (take tableLength tables) (tableAt a (netOf rest later)) ≡ tableOf (place c) tables
+  unfolding tableOf
   table-first more true h = ap (λ (k : ℕ). take tableLength (drop k tables)) (sym start-zero)
   table-first more false h = more (omega arith) ∙ ap (take tableLength) (sym (drop-step (placeIn a rest) tables))
 
   -- another table at an address is another one at its place
   with-first : (t : List ℕ) → length tables ≡ tableLength * suc (length rest) → length t ≡ tableLength →
-      (placeIn a rest < length rest → withTable a t (netOf rest later) ≡ netOf rest (putAt (placeIn a rest) t later)) →
+      (placeIn a rest < length rest → withTable a t (netOf rest later) ≡ netOf rest (putTable (placeIn a rest) t later)) →
       (c : Bool) → place c < suc (length rest) →
       pick c (station t ∷ netOf rest later) (station (take tableLength tables) ∷ withTable a t (netOf rest later))
-      ≡ netOf (x ∷ rest) (putAt (place c) t tables)
+      ≡ netOf (x ∷ rest) (putTable (place c) t tables)
   unfolding netOf
   with-first t e l more true h = rw (put-zero t tables, take-at t later tableLength l, drop-at t later tableLength l)
   with-first t e l more false h =
       let first = take tableLength tables in
-      let behind = putAt (placeIn a rest) t later in
+      let behind = putTable (placeIn a rest) t later in
       let long = length-first (length rest) tables e in
       rw (put-step (placeIn a rest) t tables, take-at first behind tableLength long, drop-at first behind tableLength long)
       (ap (λ (n : Net). station first ∷ n) (more (omega arith)))
 
 pub table-at-place : (a : ℕ) (addresses tables : List ℕ) → placeIn a addresses < length addresses →
-    tableAt a (netOf addresses tables) ≡ partAt (placeIn a addresses) tables
-unfolding netOf tableAt placeIn
+    tableAt a (netOf addresses tables) ≡ tableOf (placeIn a addresses) tables
+unfolding netOf tableAt
 table-at-place a [] tables h = absurd (omega arith)
 table-at-place a (x ∷ rest) tables h = table-first a x rest tables (table-at-place a rest (drop tableLength tables)) (eqb a x) h
 
 with-net : (a : ℕ) (addresses tables t : List ℕ) → placeIn a addresses < length addresses →
     length tables ≡ tableLength * length addresses → length t ≡ tableLength →
-    withTable a t (netOf addresses tables) ≡ netOf addresses (putAt (placeIn a addresses) t tables)
-unfolding netOf withTable placeIn
+    withTable a t (netOf addresses tables) ≡ netOf addresses (putTable (placeIn a addresses) t tables)
+unfolding netOf withTable
 with-net a [] tables t h e l = absurd (omega arith)
 with-net a (x ∷ rest) tables t h e l =
     with-first a x rest tables t e l
@@ -201,29 +216,15 @@ module _ (a : ℕ) (addresses tables : List ℕ) (fits : tablesFit addresses tab
   pub here : placeIn a addresses < length addresses
   here = ltb-true (placeIn a addresses) (length addresses) (sym (there-place a addresses tables) ∙ there)
 
-  pub length-table : length (tableAt a (netOf addresses tables)) ≡ tableLength
-  length-table =
-      ap length (table-at-place a addresses tables here)
-      ∙ length-part (placeIn a addresses) (length addresses) tables here (fit-length addresses tables fits)
-
   -- another table of the right length for it
   module _ (t : List ℕ) (long : length t ≡ tableLength) where
     abbrev new : List ℕ
-    new = putAt (placeIn a addresses) t tables
+    new = putTable (placeIn a addresses) t tables
 
-    new-net : withTable a t (netOf addresses tables) ≡ netOf addresses new
+    pub new-net : withTable a t (netOf addresses tables) ≡ netOf addresses new
     new-net = with-net a addresses tables t here (fit-length addresses tables fits) long
 
-    new-fits : tablesFit addresses new ≡ true
+    pub new-fits : tablesFit addresses new ≡ true
     new-fits =
         fit-same addresses tables new
         (length-put (placeIn a addresses) (length addresses) tables here (fit-length addresses tables fits) t long) fits
-
-    pub new-tables : tablesOf (withTable a t (netOf addresses tables)) ≡ new
-    new-tables = ap tablesOf new-net ∙ tables-of-net addresses new (fit-length addresses new new-fits)
-
-    pub tables-new-fit : tablesFit addresses (tablesOf (withTable a t (netOf addresses tables))) ≡ true
-    tables-new-fit = rw new-tables new-fits
-
-    pub net-of-new : netOf addresses (tablesOf (withTable a t (netOf addresses tables))) ≡ withTable a t (netOf addresses tables)
-    net-of-new = ap (netOf addresses) new-tables ∙ sym new-net

@@ -9,7 +9,8 @@ use lib.ListN.{length, replicate}
 use Rattle.base.specs.Choice.{pick}
 use Rattle.base.specs.Places.{placed}
 use Rattle.refusal.specs.Numbers.{numberOf}
-use Rattle.mop_header.specs.Reading.{Finding, fine, fault, tooLong, reading}
+use Rattle.mop_header.specs.Header.{Head}
+use Rattle.mop_header.specs.Reading.{Reading, sound, faulty, tooLong, reading}
 use Rattle.mop_header.specs.declared.Reader.the-variants.{Station}
 use Rattle.journey.specs.Journey.{Ending, Course}
 use Rattle.journey.specs.Terms.{lastTelegram}
@@ -57,9 +58,9 @@ ofCourse c out =
     leaves (played (length (c .transmissions)) (c .ending) (length last)) (tablesOf (c .after)) (placed (padded last) out)
 
 -- 2 to 6 for the header, and then the journey
-unfoldable pub runOf : Finding → List ℕ → List ℕ → List ℕ → List ℕ → DryRun
-runOf (fault k) tg addresses tables out = leaves (outright k) tables out
-runOf fine tg addresses tables out = ofCourse (playing mostTransmissions (netOf addresses tables) tg) out
+unfoldable pub runOf : Reading → List ℕ → List ℕ → List ℕ → List ℕ → DryRun
+runOf (faulty k) tg addresses tables out = leaves (outright k) tables out
+runOf (sound h) tg addresses tables out = ofCourse (playing mostTransmissions (netOf addresses tables) tg) out
 
 -- the call: 1, 12, 11, and the rest
 unfoldable pub dryRun : List ℕ → List ℕ → List ℕ → List ℕ → DryRun
@@ -67,7 +68,7 @@ dryRun tg addresses tables out =
     pick (not (setUp addresses tables)) (leaves (outright 1) tables out)
     (pick (tooLong tg) (leaves (outright 12) tables out)
     (pick (ltb (length out) runOutput) (leaves (outright 11) tables out)
-    (runOf (reading Station tg .finding) tg addresses tables out)))
+    (runOf (reading Station tg) tg addresses tables out)))
 
 -- what a dry run that is not refused gives is the one journey of that net, which demand 3 holds of
 pub record RanTheJourney (tg addresses tables out : List ℕ) : Type 0 where
@@ -76,7 +77,7 @@ pub record RanTheJourney (tg addresses tables out : List ℕ) : Type 0 where
 
 abbrev pub RunsTheJourney : Type 0
 RunsTheJourney =
-    (tg addresses tables out : List ℕ) → setUp addresses tables ≡ true → runOutput ≤ length out → reading Station tg .finding ≡ fine →
+    (tg addresses tables out : List ℕ) (h : Head) → setUp addresses tables ≡ true → runOutput ≤ length out → reading Station tg ≡ sound h →
     RanTheJourney tg addresses tables out
 
 -- the tables of the net are the tables given, each where it was

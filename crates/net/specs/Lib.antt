@@ -1,5 +1,4 @@
 pub mod Tables
-pub mod Place
 pub mod Hop
 pub mod DryRun
-pub mod Relays
+pub mod Private

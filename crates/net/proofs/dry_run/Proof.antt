@@ -1,10 +1,12 @@
 -- `dry_run`: the refusals in their order, and then the journey.
 -- Assumes nothing.
-use mathlib.Core.Path.{sym, _∙_}
-use borrow.Author.Needs.{needs}
-use borrow.Author.Tests.{not-true, not-false}
+use Rattle.net.proofs.DryRuns.{not-set-up, too-long, output-short, run-by}
 use Rattle.net.specs.DryRun.{runOf}
-use Rattle.net.proofs.DryRuns.{not-set-up, too-long, output-short, run-read, read-sound}
+use Rattle.mop_header.specs.declared.HeaderRead.{HeaderRead}
+use Rattle.mop_header.specs.Reading.{readingOf}
+use borrow.Author.Tests.{not-true, not-false}
+use mathlib.Core.Path.{sym, _∙_, ap}
+use borrow.Author.Needs.{needs}
 use Rattle.net.proofs.dry_run.Statement.{statement}
 use Rattle.net.proofs.dry_run.Tie as tie
 
@@ -34,19 +36,18 @@ returns-3 c =
 read-requires : tie.Need-read-requires
 read-requires c κs = search needs
 
-enum-known-verdict : tie.Need-enum-known-verdict
-enum-known-verdict c = search needs
+enum-known-r : tie.Need-enum-known-r
+enum-known-r c = search needs
 
-enum-told : tie.Need-enum-told
-enum-told c = search needs
+enum-known-header : tie.Need-enum-known-header
+enum-known-header c = search needs
 
 play-requires : tie.Need-play-requires
 play-requires c κs =
-    let t = c .before .before in
-    let read = t .before .before .before .read in
-    let i = t .before .before .before .before in
-    let set = sym (i .before .before .before .is-set-up .ensures) ∙ not-false _ (i .before .before .if1 .left) in
-    (read-sound _ (read .result) (read .ensures) (t .enum-told .given .1), (set, i .if3 .left))
+    let at-if1 = c .before .before .before .before .before .before .before .before in
+    let a = at-if1 .before .before .before .before .before .before .before .args in
+    let set = sym (at-if1 .before .is-set-up .ensures) ∙ not-false _ (at-if1 .if1 .left) in
+    (sym (c .before .before .before .before .before .read .ensures) ∙ ap (λ (r : HeaderRead). readingOf r (a .telegram .now)) (c .before .before .before .header .given .1), (set, c .before .before .before .before .before .before .if3 .left))
 
 same-length-4 : tie.Need-same-length-4
 same-length-4 c = search needs
@@ -54,10 +55,9 @@ same-length-4 c = search needs
 returns-4 : tie.Need-returns-4
 unfolding runOf
 returns-4 c =
-    let i = c .before .before .before .before .before in
-    let read = c .before .before .before .before .read in
-    let set = sym (i .before .before .before .is-set-up .ensures) ∙ not-false _ (i .before .before .if1 .left) in
-    sym (run-read _ _ _ _ set (i .before .if2 .left) (i .if3 .left) (read .result) (read .ensures) (c .before .verdict .given .1))
+    let a = c .before .before .before .before .before .before .before .before .before .before .before .before .before .args in
+    let set = sym (c .before .before .before .before .before .before .before .is-set-up .ensures) ∙ not-false _ (c .before .before .before .before .before .before .if1 .left) in
+    sym (run-by _ _ _ _ set (c .before .before .before .before .before .if2 .left) (c .before .before .before .before .if3 .left) (sym (ap (λ (r : HeaderRead). readingOf r (a .telegram .now)) (c .before .r .given .1)) ∙ c .before .before .before .read .ensures))
 
 same-length-5 : tie.Need-same-length-5
 same-length-5 c = search needs
@@ -68,32 +68,14 @@ same-length-6 c = search needs
 returns-5 : tie.Need-returns-5
 unfolding runOf
 returns-5 c =
-    let k = c .before .before .before .before .before .before .before .enum-told .given in
-    let read = c .before .before .before .before .before .before .before .before .before .before .read in
-    let i = c .before .before .before .before .before .before .before .before .before .before .before in
-    let a = i .before .before .before .before .before .before .before .before .before .args in
-    let set = sym (i .before .before .before .is-set-up .ensures) ∙ not-false _ (i .before .before .if1 .left) in
-    rw (run-read (a .telegram .now) (a .addresses .now) (a .tables .now) (a .out .now) set (i .before .if2 .left) (i .if3 .left)
-    (read .result) (read .ensures) (k .1))
-    (c .before .before .before .before .play .ensures)
+    let at-read = c .before .before .before .before .before .before .before .before .before .before in
+    let a = at-read .before .before .before .before .before .before .before .before .before .before .args in
+    let set = sym (at-read .before .before .before .before .is-set-up .ensures) ∙ not-false _ (at-read .before .before .before .if1 .left) in
+    c .before .before .before .before .play .ensures
+    ∙ sym (run-by _ _ _ _ set (at-read .before .before .if2 .left) (at-read .before .if3 .left) (sym (ap (λ (r : HeaderRead). readingOf r (a .telegram .now)) (c .before .before .before .before .before .before .before .before .header .given .1)) ∙ at-read .read .ensures))
 
 pub dry-run-spec : {M : Type 1} → statement M
 dry-run-spec =
     tie.close
-    (tie.spec
-    is-set-up-requires
-    same-length
-    returns
-    same-length-2
-    returns-2
-    same-length-3
-    returns-3
-    read-requires
-    enum-known-verdict
-    enum-told
-    play-requires
-    same-length-4
-    returns-4
-    same-length-5
-    same-length-6
-    returns-5)
+    (tie.spec is-set-up-requires same-length returns same-length-2 returns-2 same-length-3 returns-3 read-requires
+    enum-known-r enum-known-header play-requires same-length-4 returns-4 same-length-5 same-length-6 returns-5)
