@@ -4,21 +4,20 @@ use mathlib.Core.Path.{_∙_, ap}
 use Rattle.journey.specs.Journey.{Course}
 use Rattle.journey.specs.Bounded.{playing, mostTransmissions}
 use Rattle.journey.proofs.Whole.{every-journey, plays-the-journey}
-use Rattle.net.specs.Tables.{netOf, tablesOf}
+use Rattle.net.specs.Tables.{netOf}
 use Rattle.net.proofs.Tables.{good-net}
-use Rattle.report.specs.Text.{courseText}
-use Rattle.report.specs.Report.{tells, toldOf, TellsTheJourney}
+use Rattle.report.specs.Report.{tellsCourse, toldOf, TellsTheJourney}
 use Rattle.report.proofs.Reporting.{reports-rest}
 
 pub tells-the-journey : TellsTheJourney
 unfolding toldOf
-tells-the-journey tg addresses tables out fit room order =
+tells-the-journey tg addresses tables out h set room order =
     let net = netOf addresses tables in
-    let good = good-net addresses tables fit in
+    let good = good-net addresses tables set in
     let one = every-journey net tg good in
     record {
       journey = one;
       tells-it =
-          reports-rest tg addresses tables out room fit order
-          ∙ ap (λ (c : Course). tells (courseText c) (tablesOf (c .after)) out) (one .only (playing mostTransmissions net tg) (plays-the-journey net tg good));
+          reports-rest tg addresses tables out room set order
+          ∙ ap (λ (c : Course). tellsCourse c out) (one .only (playing mostTransmissions net tg) (plays-the-journey net tg good));
     }

@@ -5,18 +5,16 @@ use mathlib.Core.Bool.{true, false}
 use mathlib.Core.List.{List}
 use Prim.Native.Nat.{ℕ, _≤_, _<_}
 use native.Mathlib.Nat.{zero-add}
-use native.Mathlib.Omega.{arith}
 use borrow.Author.Tests.{lt-ltb, le-ltb}
-use lib.ListN.{length, length-append}
+use lib.ListN.{length}
 use Rattle.base.specs.Filling.{filled, refused}
 use Rattle.base.proofs.Places.{sets-placed}
-use Rattle.mop_header.specs.Reading.{Finding, reading}
+use Rattle.mop_header.specs.Reading.{Reading, reading}
 use Rattle.mop_header.specs.declared.Reader.the-variants.{Station}
 use Rattle.net.specs.Tables.{setUp}
 use Rattle.report.specs.Text.{outrightText}
 use Rattle.report.specs.Writing.{Writing, leftAt, writing}
 use Rattle.report.specs.Report.{leaves, tells, reportOutput, toldOf, reporting}
-use Rattle.report.proofs.Lengths.{refused-bound}
 
 module _ (tg addresses tables out : List ℕ) where
   pub reports-short : length out < reportOutput → reporting tg addresses tables out ≡ leaves (refused 11) tables out
@@ -28,18 +26,15 @@ module _ (tg addresses tables out : List ℕ) where
     unfolding reporting
     reports-unfit e = simp (le-ltb _ _ room, e)
 
-    pub reports-rest : setUp addresses tables ≡ true → {v : Finding} → reading Station tg .finding ≡ v →
-        reporting tg addresses tables out ≡ toldOf v tg addresses tables out
+    pub reports-rest : setUp addresses tables ≡ true → {r : Reading} → reading Station tg ≡ r →
+        reporting tg addresses tables out ≡ toldOf r tg addresses tables out
     unfolding reporting
-    reports-rest e f = simp (le-ltb _ _ room, e) (ap (λ (v : Finding). toldOf v tg addresses tables out) f)
+    reports-rest e f = simp (le-ltb _ _ room, e) (ap (λ (r : Reading). toldOf r tg addresses tables out) f)
 
 -- a text from the first place on that has room
-pub tells-text : (text : List ℕ) (r : ℕ) (tables output out : List ℕ) → leftAt r output ≡ writing 0 text out → length text ≤ length out →
+pub tells-text : (text : List ℕ) {r : ℕ} (tables : List ℕ) {output : List ℕ} (out : List ℕ) → leftAt r output ≡ writing 0 text out → r ≤ length out →
     leaves (filled r) tables output ≡ tells text tables out
 unfolding tells
-tells-text text r tables output out e room =
-    ap (λ (w : Writing). leaves (filled (w .at)) tables (w .output)) e ∙ rw (zero-add (length text), sets-placed text out room)
-
-pub outright-bound : (k : ℕ) → length (outrightText k) ≤ 11
-unfolding outrightText
-outright-bound k = simp length-append (omega (arith, refused-bound k))
+tells-text text tables out e room =
+    let long = ap (λ (w : Writing). w .at) e ∙ zero-add (length text) in
+    ap (λ (w : Writing). leaves (filled (w .at)) tables (w .output)) e ∙ rw (zero-add (length text), sets-placed text out (rw long at room))

@@ -5,7 +5,7 @@ use mathlib.Core.List.{List, [], _∷_, _++_}
 use Prim.Native.Nat.{ℕ, _+_}
 use native.Mathlib.Nat.{add-assoc, add-zero}
 use lib.ListN.{length, set, length-append}
-use lib.Seq.{sets, length-sets}
+use lib.Seq.{sets}
 use Rattle.base.proofs.Places.{sets-append}
 use Rattle.report.specs.Writing.{Writing, leftAt, writing}
 
@@ -35,10 +35,3 @@ module _ (at : ℕ) (xs : List ℕ) where
   -- a character behind a text
   pub stored : (b : ℕ) (out : List ℕ) {w : Writing} → w ≡ writing at xs out → leftAt (w .at + 1) (set (w .output) (w .at) b) ≡ writing at (xs ++ (b ∷ [])) out
   stored b out e = ap (λ (w : Writing). writing (w .at) (b ∷ []) (w .output)) e ∙ writing-append (b ∷ []) out
-
-  -- where a text ends, and how long the output stays
-  pub place : (out : List ℕ) {w : Writing} → w ≡ writing at xs out → w .at ≡ at + length xs
-  place out e = ap (λ (w : Writing). w .at) e
-
-  pub same-output : (out : List ℕ) {w : Writing} → w ≡ writing at xs out → length (w .output) ≡ length out
-  same-output out e = ap (λ (w : Writing). length (w .output)) e ∙ length-sets out at xs

@@ -1,3 +1,4 @@
 pub mod Text
 pub mod Writing
 pub mod Report
+pub mod Private

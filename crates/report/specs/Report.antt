@@ -11,8 +11,10 @@ use Rattle.base.specs.Places.{placed}
 use Rattle.base.specs.Filling.{Given, filled, refused}
 use Rattle.refusal.specs.Writing.{givenOf}
 use Rattle.refusal.specs.declared.WriteAnswer.{WriteAnswer}
-use Rattle.mop_header.specs.Reading.{Finding, fine, fault, reading}
+use Rattle.mop_header.specs.Header.{Head}
+use Rattle.mop_header.specs.Reading.{Reading, sound, faulty, reading}
 use Rattle.mop_header.specs.declared.Reader.the-variants.{Station}
+use Rattle.journey.specs.Journey.{Course}
 use Rattle.journey.specs.Demand3.{TheJourney}
 use Rattle.journey.specs.Bounded.{playing, mostTransmissions}
 use Rattle.net.specs.Tables.{netOf, tablesOf, setUp}
@@ -34,31 +36,33 @@ reportOf r tables out = leaves (givenOf r) tables out
 unfoldable pub tells : List ℕ → List ℕ → List ℕ → Report
 tells text tables out = leaves (filled (length text)) tables (placed text out)
 
--- the places that a report asks for: 62 lines of at most 102 characters, one more that the code could write behind its loop, and
--- the last one are under 6,500
+-- the text of a journey, and the tables as it leaves them
+abbrev pub tellsCourse : Course → List ℕ → Report
+tellsCourse c out = tells (courseText c) (tablesOf (c .after)) out
+
+-- the places that a report asks for: 62 lines of at most 102 characters, one more that the code could write, and the last one are
+-- under 6,500
 abbrev pub reportOutput : ℕ
 reportOutput = 6500
 
 -- the text of a telegram with a fault of its header, and that of its journey
-unfoldable pub toldOf : Finding → List ℕ → List ℕ → List ℕ → List ℕ → Report
-toldOf (fault k) tg addresses tables out = tells (outrightText k) tables out
-toldOf fine tg addresses tables out =
-    let c = playing mostTransmissions (netOf addresses tables) tg in
-    tells (courseText c) (tablesOf (c .after)) out
+unfoldable pub toldOf : Reading → List ℕ → List ℕ → List ℕ → List ℕ → Report
+toldOf (faulty k) tg addresses tables out = tells (outrightText k) tables out
+toldOf (sound h) tg addresses tables out = tellsCourse (playing mostTransmissions (netOf addresses tables) tg) out
 
 -- the call: 11 for its own output; then the text of the dry run, with 1, 12 and 2 to 6 told as text
 unfoldable pub reporting : List ℕ → List ℕ → List ℕ → List ℕ → Report
 reporting tg addresses tables out =
     pick (ltb (length out) reportOutput) (leaves (refused 11) tables out)
     (pick (not (setUp addresses tables)) (tells (outrightText 1) tables out)
-    (toldOf (reading Station tg .finding) tg addresses tables out))
+    (toldOf (reading Station tg) tg addresses tables out))
 
 -- what is told of a call that is not refused is the one journey of that net
 pub record ToldTheJourney (tg addresses tables out : List ℕ) : Type 0 where
   pub journey : TheJourney (netOf addresses tables) tg
-  pub tells-it : reporting tg addresses tables out ≡ tells (courseText (journey .course)) (tablesOf (journey .course .after)) out
+  pub tells-it : reporting tg addresses tables out ≡ tellsCourse (journey .course) out
 
 abbrev pub TellsTheJourney : Type 0
 TellsTheJourney =
-    (tg addresses tables out : List ℕ) → setUp addresses tables ≡ true → reportOutput ≤ length out → reading Station tg .finding ≡ fine →
+    (tg addresses tables out : List ℕ) (h : Head) → setUp addresses tables ≡ true → reportOutput ≤ length out → reading Station tg ≡ sound h →
     ToldTheJourney tg addresses tables out

@@ -7,8 +7,8 @@ use mathlib.Core.List.{List, [], _∷_, _++_}
 use lib.Dec.{ltb}
 use lib.ListN.{length}
 use Rattle.base.specs.Choice.{pick}
-use Rattle.mop_header.specs.Header.{functionByte}
-use Rattle.mop_header.specs.Reading.{reading}
+use Rattle.mop_header.specs.Header.{Head, functionByte}
+use Rattle.mop_header.specs.Reading.{Reading, sound, faulty, reading}
 use Rattle.mop_header.specs.declared.Reader.the-variants.{Station}
 use Rattle.journey.specs.Journey.{Ending, atZero, atNobody, refusedWith, Course}
 
@@ -39,11 +39,17 @@ hexBytes (b ∷ rest) = space ∷ hexDigit (b / 16) ∷ hexDigit (b % 16) ∷ he
 unfoldable pub decimal : ℕ → List ℕ
 decimal n = pick (ltb n 10) (digit n ∷ []) (digit (n / 10) ∷ digit (n % 10) ∷ [])
 
--- a transmission: its number, the function byte and the block entries
+-- a transmission with this header: its number, the function byte and the block entries
+unfoldable pub headLine : ℕ → Head → List ℕ
+headLine number h = decimal number ++ (hexBytes (functionByte (h .function) ∷ h .block) ++ (lineFeed ∷ []))
+
+-- by what reading it gives: a telegram with a fault of its header has no line, and is never told
+unfoldable pub lineOf : ℕ → Reading → List ℕ
+lineOf number (sound h) = headLine number h
+lineOf number (faulty k) = []
+
 unfoldable pub line : ℕ → List ℕ → List ℕ
-line number tg =
-    let h = reading Station tg .header in
-    decimal number ++ (hexBytes (functionByte (h .function) ∷ h .block) ++ (lineFeed ∷ []))
+line number tg = lineOf number (reading Station tg)
 
 -- a line for each transmission
 unfoldable pub lines : ℕ → List (List ℕ) → List ℕ

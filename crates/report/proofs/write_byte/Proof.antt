@@ -37,7 +37,7 @@ same-length c = search needs
 
 returns : tie.Need-returns
 unfolding hexBytes
-returns c = rw (← c .before .hex-digit .ensures, ← c .hex-digit2 .ensures, add-one, add-two)
+returns c = (rw (← c .before .hex-digit .ensures, ← c .hex-digit2 .ensures, add-one, add-two), omega arith)
 
 pub write-byte-spec : {M : Type 1} → statement M
 write-byte-spec =

@@ -23,7 +23,7 @@ same-length c = search needs
 
 returns : tie.Need-returns
 unfolding decimal
-returns c = simp (lt-ltb (c .before .args .n) 10 (omega arith))
+returns c = (simp (lt-ltb (c .before .args .n) 10 (omega arith)), omega arith)
 
 add-out-2 : tie.Need-add-out-2
 add-out-2 c = search needs
@@ -48,7 +48,7 @@ same-length-2 c = search needs
 
 returns-2 : tie.Need-returns-2
 unfolding decimal
-returns-2 c = simp (le-ltb (c .before .args .n) 10 (omega arith), add-one)
+returns-2 c = (simp (le-ltb (c .before .args .n) 10 (omega arith), add-one), omega arith)
 
 pub write-decimal-spec : {M : Type 1} → statement M
 write-decimal-spec =

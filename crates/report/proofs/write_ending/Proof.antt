@@ -36,13 +36,13 @@ returns : tie.Need-returns
 unfolding endingText
 returns c =
     let a = c .before .before .before .args in
-    nothing (a .at) (a .out .now) ∙ ap (λ (e : JourneyEnd). writing (a .at) (endingText (endingOf e)) (a .out .now)) (sym (c .enum-told .given .1))
+    (nothing (a .at) (a .out .now) ∙ ap (λ (e : JourneyEnd). writing (a .at) (endingText (endingOf e)) (a .out .now)) (sym (c .enum-told .given .1)), omega arith)
 
 returns-2 : tie.Need-returns-2
 unfolding endingText
 returns-2 c =
     let a = c .before .before .before .args in
-    nothing (a .at) (a .out .now) ∙ ap (λ (e : JourneyEnd). writing (a .at) (endingText (endingOf e)) (a .out .now)) (sym (c .enum-told2 .given .1))
+    (nothing (a .at) (a .out .now) ∙ ap (λ (e : JourneyEnd). writing (a .at) (endingText (endingOf e)) (a .out .now)) (sym (c .enum-told2 .given .1)), omega arith)
 
 same-length : tie.Need-same-length
 same-length c = c .before .before .write-refused .kept .1 .0 ∙ simp length-set
@@ -52,8 +52,11 @@ unfolding endingText
 returns-3 c =
     let a = c .before .before .before .before .before .before .before .before .args in
     let k = numberOf (c .before .before .before .before .before .end .given .0 .0) in
-    worded (a .at) (space ∷ []) (refusedText k) (a .out .now) refl (c .before .before .write-refused .ensures)
-    ∙ ap (λ (e : JourneyEnd). writing (a .at) (endingText (endingOf e)) (a .out .now)) (sym (c .before .before .before .before .before .end .given .1))
+    let w = c .before .before .write-refused .ensures in (
+      worded (a .at) (space ∷ []) (refusedText k) (a .out .now) refl (w .0)
+          ∙ ap (λ (e : JourneyEnd). writing (a .at) (endingText (endingOf e)) (a .out .now)) (sym (c .before .before .before .before .before .end .given .1)),
+      omega (arith, w .1),
+    )
 
 pub write-ending-spec : {M : Type 1} → statement M
 write-ending-spec =

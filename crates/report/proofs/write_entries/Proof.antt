@@ -1,13 +1,12 @@
 -- `write_entries`: what is written, and what is left from i on, make the whole. What is left falls.
 -- Assumes nothing.
-use mathlib.Core.Path.{ap, refl, _∙_, _≡_}
-use lib.ListN.{length-drop, length, drop}
-use Prim.Native.Nat.{_+_, _≤_, _-_}
-use Rattle.report.specs.Writing.{Writing, writing}
+use mathlib.Core.Path.{refl, _∙_, _≡_}
+use lib.ListN.{length, drop}
+use Prim.Native.Nat.{_+_, _*_, _≤_, _-_}
+use Rattle.report.specs.Writing.{writing}
 use mathlib.Core.List.{[], _∷_}
 use Rattle.report.proofs.Writing.{goes-on, all-written}
-use Rattle.report.proofs.Lengths.{length-hex}
-use Rattle.report.proofs.Hex.{hex-next, hex-end}
+use Rattle.report.proofs.Lines.{hex-next, hex-end}
 use native.Mathlib.Omega.{arith}
 use borrow.Author.Needs.{needs}
 use Rattle.mop_header.specs.Header.{headOf}
@@ -16,27 +15,24 @@ use Rattle.report.proofs.write_entries.Statement.{statement}
 use Rattle.report.proofs.write_entries.Tie as tie
 
 abbrev Inv-loop : tie.InvT-loop
-Inv-loop header out₀ at n place₀ i₀ out place i =
-    (n ≡ length (headOf header .block)) × (i ≤ n) × (length out ≡ length out₀)
-    × (writing place (hexBytes (drop i (headOf header .block))) out ≡ writing at (hexBytes (headOf header .block)) out₀)
+Inv-loop header block out₀ at n place₀ i₀ out place i =
+    (n ≡ length (headOf header block .block)) × (i ≤ n) × (place ≤ at + 3 * i) × (length out ≡ length out₀)
+    × (writing place (hexBytes (drop i (headOf header block .block))) out ≡ writing at (hexBytes (headOf header block .block)) out₀)
 
 abbrev μ-loop : tie.MeasureT-loop
-μ-loop header out₀ at n place₀ i₀ out place i = n - i
+μ-loop header block out₀ at n place₀ i₀ out place i = n - i
 
 entry-count-requires : tie.Need-entry-count-requires Inv-loop μ-loop
 entry-count-requires c κs = search needs
 
 loop-holds : tie.Need-loop-holds Inv-loop μ-loop
-loop-holds c = (c .entry-count .ensures .0, omega arith, refl, refl)
+loop-holds c = (c .entry-count .ensures _, omega arith, omega arith, refl, refl)
 
 entry-requires : tie.Need-entry-requires Inv-loop μ-loop
 entry-requires c κs = search needs
 
 write-byte-requires : tie.Need-write-byte-requires Inv-loop μ-loop
-write-byte-requires c κs =
-    let v = c .before .before .before .loop in
-    let block = headOf (c .before .before .before .before .before .before .args .header) .block in
-    omega (arith, ap (λ (w : Writing). w .at) (v .inv .3), length-hex (drop (v .i) block), length-hex block, length-drop (v .i) block)
+write-byte-requires c κs = search needs
 
 add-i : tie.Need-add-i Inv-loop μ-loop
 add-i c = search needs
@@ -47,24 +43,27 @@ loop-less c = search needs
 loop-again : tie.Need-loop-again Inv-loop μ-loop
 loop-again c =
     let v = c .before .before .before .before .before .before .loop in
-    let block = headOf (c .before .before .before .before .before .before .before .before .before .args .header) .block in
+    let a = c .before .before .before .before .before .before .before .before .before .before .args in
+    let block = headOf (a .header) (a .block .now) .block in
     let b = c .before .before .before .before .entry in
     let p = c .before .before .write-byte in
     let next = hex-next block (v .i) (b .result) (b .ensures) (omega arith) in (
       v .inv .0,
       omega arith,
-      p .kept .1 .0 ∙ v .inv .2,
-      goes-on (v .place) (hexBytes (b .result ∷ [])) (hexBytes (drop (v .i + 1) block)) (hexBytes (drop (v .i) block)) (v .out) (p .ensures) next (v .inv .3),
+      omega (arith, p .ensures .1),
+      p .kept .1 .0 ∙ v .inv .3,
+      goes-on (v .place) (hexBytes (b .result ∷ [])) (hexBytes (drop (v .i + 1) block)) (hexBytes (drop (v .i) block)) (v .out) (p .ensures .0) next (v .inv .4),
     )
 
 same-length : tie.Need-same-length Inv-loop μ-loop
-same-length c = c .before .loop .inv .2
+same-length c = c .before .loop .inv .3
 
 returns : tie.Need-returns Inv-loop μ-loop
 returns c =
     let v = c .before .loop in
-    let block = headOf (c .before .before .before .before .args .header) .block in
-    all-written (v .place) (hexBytes (drop (v .i) block)) (v .out) (hex-end block (v .i) (omega arith)) (v .inv .3)
+    let a = c .before .before .before .before .before .args in
+    let block = headOf (a .header) (a .block .now) .block in
+    (all-written (v .place) (hexBytes (drop (v .i) block)) (v .out) (hex-end block (v .i) (omega arith)) (v .inv .4), omega arith)
 
 pub write-entries-spec : {M : Type 1} → statement M
 write-entries-spec =

@@ -1,10 +1,10 @@
 -- `write_refused`: the number behind the word.
 -- Assumes nothing.
-use mathlib.Core.List.{[], _∷_}
+use mathlib.Core.List.{List, [], _∷_}
+use Prim.Native.Nat.{ℕ}
 use native.Mathlib.Omega.{arith}
 use Rattle.report.specs.Text.{space, decimal, refusedText}
 use Rattle.report.proofs.Writing.{worded}
-use Rattle.report.proofs.Lengths.{number-bound}
 use borrow.Author.Needs.{needs}
 use Rattle.report.proofs.write_refused.Statement.{statement}
 use Rattle.report.proofs.write_refused.Tie as tie
@@ -22,7 +22,7 @@ add-write-decimal : tie.Need-add-write-decimal
 add-write-decimal c = search needs
 
 write-decimal-requires : tie.Need-write-decimal-requires
-write-decimal-requires c κs = (omega (arith, c .before .number .ensures, number-bound (c .before .before .before .before .before .before .before .before .args .refusal)), search needs)
+write-decimal-requires c κs = search needs
 
 same-length : tie.Need-same-length
 same-length c = search needs
@@ -32,9 +32,9 @@ unfolding refusedText
 returns c =
     let a = c .before .before .before .before .before .before .before .before .before .before .before .args in
     let k = c .before .before .before .before .number in
-    rw (← k .ensures)
-    (worded (a .at) (0x72 ∷ 0x65 ∷ 0x66 ∷ 0x75 ∷ 0x73 ∷ 0x65 ∷ 0x64 ∷ space ∷ []) (decimal (k .result)) (a .out .now) (c .before .before .before .before .before .before .before .put .ensures)
-    (c .before .before .write-decimal .ensures))
+    let d = c .before .before .write-decimal .ensures in
+    let word : List ℕ = 0x72 ∷ 0x65 ∷ 0x66 ∷ 0x75 ∷ 0x73 ∷ 0x65 ∷ 0x64 ∷ space ∷ [] in
+    (rw (← k .ensures) (worded (a .at) word (decimal (k .result)) (a .out .now) (c .before .before .before .before .before .before .before .put .ensures) (d .0)), omega (arith, d .1))
 
 pub write-refused-spec : {M : Type 1} → statement M
 write-refused-spec =
