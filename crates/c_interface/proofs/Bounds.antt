@@ -1,49 +1,43 @@
 -- How large the values of the calls are.
 -- Assumes nothing.
-use mathlib.Core.Path.{_≡_, refl, sym, _∙_, ap, subst}
-use mathlib.Core.Bool.{Bool, true, false, not, _&&_, _||_, and-eq-true-iff}
+use mathlib.Core.Path.{_≡_, refl, sym, _∙_, subst}
+use mathlib.Core.Bool.{Bool, true, false, not, _||_}
 use mathlib.Core.List.{List}
-use Prim.Native.Nat.{ℕ, zero, suc, _+_, _≤_}
+use Prim.Native.Nat.{ℕ, _≤_}
 use native.Mathlib.Omega.{arith}
-use borrow.Author.Tests.{ltb-false, leb-true}
-use lib.Dec.{eqb, leb, ltb}
-use lib.ListN.{length}
+use borrow.Author.Tests.{ltb-false, leb-true, leb-false}
+use lib.Dec.{leb, ltb}
+use lib.ListN.{length, replicate, length-replicate}
 use Rattle.base.specs.Choice.{pick}
 use Rattle.base.specs.Filling.{Given, filled, refused, Filling, denied, fitted}
 use Rattle.base.proofs.Choice.{pick-either}
 use Rattle.refusal.specs.Numbers.{numberOf}
 use Rattle.refusal.specs.declared.Refusal.{Refusal}
-use Rattle.refusal.specs.declared.Refusal.the-variants.{Setup, HeaderCut, ExtendedCount, Block, Mark, BodyLength, NoRegister, NoWrite, ValueRange, OutputShort, TooLong}
-use Rattle.refusal.specs.declared.Refusal.the-variants as refusals
+use Rattle.refusal.specs.declared.Refusal.the-variants.{Setup, HeaderCut, Function, ExtendedCount, Block, Mark, BodyLength, NoRegister, NoWrite, ValueRange, OutputShort, TooLong}
 use Rattle.link_frame.specs.Frame.{frameOf, framing, maxData}
 use Rattle.link_frame.proofs.Doubling.{doubled-bound}
 use Rattle.link_frame.proofs.Framing.{length-frame}
-use Rattle.registers.specs.Rows.{tableLength}
-use Rattle.mop_block.specs.Block.{isAddress, first, next}
-use Rattle.mop_header.specs.Header.{Head, headerLength, telegramOf, bodyOf}
-use Rattle.mop_header.specs.Reading.{Finding, fine, fault, maxTelegram, reading}
-use Rattle.mop_header.specs.ReadBack.{ReadWell}
-use Rattle.mop_header.specs.declared.Function.{Function}
-use Rattle.mop_header.specs.declared.Function.the-variants.{Request, Reply}
+use Rattle.mop_header.specs.Header.{bodyOf}
+use Rattle.mop_header.specs.Reading.{Reading, sound, faulty, maxTelegram, reading}
 use Rattle.mop_header.specs.declared.Reader.the-variants.{Station}
-use Rattle.mop_header.proofs.Lengths.{length-rolled-left, length-sent-back, header-bound}
-use Rattle.mop_header.proofs.Writing.{length-telegram}
-use Rattle.mop_header.proofs.ReadBack.{is-written, reading-fine}
-use Rattle.mop_station.specs.Body.{Acceptance, accepts, rejects, judgedBody, afterWrites, replyBody}
-use Rattle.mop_station.specs.Station.{Handled, sent, notMine, refuses, Handling, sending, relayed, relaying, replied, answering, taking, hearing, handling}
-use Rattle.mop_station.proofs.Answers.{reply-bound, length-replied}
+use Rattle.mop_station.specs.Step.{Stepped, relays, answers, isStation}
+use Rattle.mop_station.specs.Step as step
+use Rattle.mop_station.specs.Station.{Handled, sent, notMine, refuses, Handling, sendingBy, hearing, handling}
+use Rattle.mop_station.proofs.Rooms.{Fits, step-fits}
 use Rattle.mop_centre.specs.Request.{goodRoute, maxRun, requestTelegram, requesting}
 use Rattle.mop_centre.proofs.Routes.{route-parts}
+use Rattle.mop_centre.proofs.Replies.{receipt-read}
 use Rattle.centre_laws.specs.ReadBack.{maxRequest}
 use Rattle.centre_laws.proofs.Requests.{request-most}
-use Rattle.journey.specs.Bounded.{mostTransmissions}
-use Rattle.net.specs.DryRun.{runOutput}
-use Rattle.c_interface.specs.Link.{smallResponse}
-use Rattle.c_interface.specs.Net.{smallRun}
+use Rattle.journey.specs.Journey.{callOutput}
+use Rattle.journey.specs.Bounded.{calling}
+use Rattle.journey.proofs.Bounded.{same-calling}
+use Rattle.c_interface.specs.Link.{SmallResponse}
+use Rattle.c_interface.specs.Net.{SmallRun}
 use Rattle.c_interface.specs.Bounds.{maxFrame, ValueBounds}
 use Rattle.c_interface.proofs.Messages.{response-small}
-use Rattle.c_interface.proofs.Replies.{values-within, telegram-short}
-use Rattle.c_interface.proofs.Runs.{small-run}
+use Rattle.c_interface.proofs.Replies.{telegram-short, values-long}
+use Rattle.c_interface.proofs.Runs.{small-run, refusal-told}
 
 -- what is filled has so many places at most
 abbrev Within : ℕ → Given → Type 0
@@ -80,71 +74,46 @@ unfolding requesting
 request-bound route rStart rCount wStart values out =
     request-within route rStart rCount wStart values out (goodRoute route) (ltb maxRun rCount) (ltb maxRun (length values)) refl refl
 
--- what a station sends is no longer than a telegram
-abbrev Sends : Handled → Type 0
-Sends (sent n) = n ≤ maxTelegram
-Sends notMine = Unit
-Sends (refuses k) = Unit
+-- what a station sends has so many bytes at most
+abbrev Sends : ℕ → Handled → Type 0
+Sends most (sent n) = n ≤ most
+Sends most notMine = Unit
+Sends most (refuses k) = Unit
 
-sends-filled : (g : Given) → Within maxTelegram g → Sends (sending g)
-unfolding sending
-sends-filled (filled n) h = h
-sends-filled (refused k) h = tt
+-- it has room in the output
+step-sends : (s : Stepped) (body t out : List ℕ) → Fits s body (length out) → Sends (length out) (sendingBy s body t out .handled)
+unfolding sendingBy
+step-sends (relays h) body t out f = f
+step-sends (answers h reply) body t out f = f .0
+step-sends step.notMine body t out f = tt
+step-sends (step.refuses k) body t out f = tt
 
-length-relayed : (f : Function) (h : Head) → headerLength (relayed f h) ≡ headerLength h
-unfolding relayed
-length-relayed Request h = length-rolled-left h
-length-relayed Reply h = length-sent-back h
+module _ (own : ℕ) (t telegram out : List ℕ) where
+  hear-sends : (r : Reading) → Sends (length out) (hearing r own telegram t out .handled)
+  unfolding hearing
+  hear-sends (faulty k) = tt
+  hear-sends (sound h) = let body = bodyOf h telegram in step-sends _ body _ out (step-fits own h body t (length out))
 
--- of a telegram that reads well
-module _ (t out telegram : List ℕ) (h : Head) (well : ReadWell Station telegram h) where
-  abbrev body : List ℕ
-  body = bodyOf h telegram
+  room-sends : Sends (length out) (handling own t telegram out .handled)
+  unfolding handling
+  room-sends = pick-either (λ (r : Handling). Sends (length out) (r .handled)) (not (isStation own t)) tt (hear-sends (reading Station telegram))
 
-  whole : headerLength h + length body ≡ length telegram
-  whole = sym (length-telegram h body) ∙ ap length (well .whole)
-
-  relay-sends : Sends (relaying h body t out .handled)
-  unfolding relaying
-  relay-sends =
-      let sent-on = relayed (h .function) h in
-      sends-filled (fitted (telegramOf sent-on body) out .given) (fitted-within maxTelegram (telegramOf sent-on body) out
-      (omega (arith, length-telegram sent-on body, length-relayed (h .function) h, whole, well .short)))
-
-  answer-sends : (v : Acceptance) → judgedBody body ≡ v → Sends (answering v h body t out .handled)
-  unfolding answering
-  answer-sends (rejects k) e = tt
-  answer-sends accepts e =
-      let after = afterWrites body t in
-      let x = telegramOf (replied h) (replyBody body after) in
-      sends-filled (fitted x out .given) (fitted-within maxTelegram x out
-      (omega (arith, length-telegram (replied h) (replyBody body after), length-replied h, header-bound Station h (well .order), reply-bound body after e)))
-
-  take-sends : (f : Function) (n : ℕ) → Sends (taking f n h body t out .handled)
-  unfolding taking
-  take-sends Request zero = answer-sends (judgedBody body) refl
-  take-sends Request (suc n) = relay-sends
-  take-sends Reply n = relay-sends
-
-hear-sends : (own : ℕ) (t telegram out : List ℕ) (v : Finding) → reading Station telegram .finding ≡ v →
-    Sends (hearing v own (reading Station telegram .header) telegram t out .handled)
-unfolding hearing
-hear-sends own t telegram out (fault k) e = tt
-hear-sends own t telegram out fine e =
-    let h = reading Station telegram .header in
-    pick-either (λ (r : Handling). Sends (r .handled)) (eqb (first (h .block)) own)
-    (take-sends t out telegram h (is-written Station telegram h (reading-fine Station telegram e)) (h .function) (next (h .block))) tt
-
-station-bound : (own : ℕ) (t telegram out : List ℕ) → Sends (handling own t telegram out .handled)
-unfolding handling
-station-bound own t telegram out =
-    pick-either (λ (r : Handling). Sends (r .handled)) (not (isAddress own && eqb (length t) tableLength)) tt
-    (hear-sends own t telegram out (reading Station telegram .finding) refl)
+-- in an output with more places than a telegram has, the same is sent as in one with as many
+sends-by : (own : ℕ) (t telegram out : List ℕ) (n : ℕ) (short : Bool) → leb (length out) maxTelegram ≡ short →
+    handling own t telegram out .handled ≡ sent n → n ≤ maxTelegram
+unfolding calling
+sends-by own t telegram out n true l e =
+    let room : n ≤ length out = subst (Sends (length out)) e (room-sends own t telegram out) in omega (arith, leb-true (length out) maxTelegram l)
+sends-by own t telegram out n false l e =
+    let zeros : List ℕ = replicate callOutput 0 in
+    let same = same-calling own t telegram out (omega (arith, leb-false (length out) maxTelegram l)) .handled in
+    let room : n ≤ length zeros = subst (Sends (length zeros)) (sym same ∙ e) (room-sends own t telegram zeros) in
+    omega (arith, length-replicate {A = ℕ} callOutput 0)
 
 number-bound : (r : Refusal) → (1 ≤ numberOf r) × (numberOf r ≤ 12)
 number-bound Setup = (omega arith, omega arith)
 number-bound HeaderCut = (omega arith, omega arith)
-number-bound refusals.Function = (omega arith, omega arith)
+number-bound Function = (omega arith, omega arith)
 number-bound ExtendedCount = (omega arith, omega arith)
 number-bound Block = (omega arith, omega arith)
 number-bound Mark = (omega arith, omega arith)
@@ -159,12 +128,12 @@ pub value-bounds : ValueBounds
 value-bounds = record {
   refusal = number-bound;
   frame = λ d out n e. subst (Within maxFrame) e (frame-bound d out);
-  byte = λ s e buf b is. leb-true b 255 (ap smallResponse (sym is) ∙ response-small s e buf);
-  message = λ s e buf b n is. leb-true n maxData (ap smallResponse (sym is) ∙ response-small s e buf);
-  station = λ own t telegram out n e. subst Sends e (station-bound own t telegram out);
+  byte = λ s e buf b is. subst SmallResponse is (response-small s e buf);
+  message = λ s e buf b n is. subst SmallResponse is (response-small s e buf);
+  station = λ own t telegram out n e. sends-by own t telegram out n (leb (length out) maxTelegram) refl e;
   request = λ route rStart rCount wStart values out n e. subst (Within maxRequest) e (request-bound route rStart rCount wStart values out);
-  reply = λ telegram a. omega (arith, values-within telegram a, telegram-short telegram a);
-  run = λ telegram addresses tables out count e n is.
-      let p = and-eq-true-iff (leb count mostTransmissions) (leb n runOutput) .0 (ap smallRun (sym is) ∙ small-run telegram addresses tables out) in
-      (leb-true count mostTransmissions (p .0), leb-true n runOutput (p .1));
+  reply = λ telegram a.
+      let e = receipt-read telegram ∙ a in omega (arith, values-long telegram refl e, telegram-short telegram refl e);
+  run = λ telegram addresses tables out count e n is. subst SmallRun is (small-run telegram addresses tables out);
+  ending = refusal-told;
 }

@@ -1,10 +1,11 @@
 -- No message is longer than a block holds, and what is sent is a byte.
 -- Assumes nothing.
-use mathlib.Core.Path.{_≡_, refl, sym, _∙_, ap}
+use mathlib.Core.Path.{_≡_, refl, subst}
 use mathlib.Core.Bool.{Bool, true, false, _||_}
 use mathlib.Core.List.{List}
 use Prim.Native.Nat.{ℕ, _≤_}
-use borrow.Author.Tests.{leb-true, le-leb, ltb-false}
+use native.Mathlib.Omega.{arith}
+use borrow.Author.Tests.{ltb-false}
 use lib.Dec.{eqb, ltb}
 use lib.Bits.{bitXor}
 use lib.ListN.{length}
@@ -22,14 +23,14 @@ use Rattle.link_receive.specs.declared.LinkEvent.{LinkEvent}
 use Rattle.link_receive.specs.declared.LinkEvent.the-variants.{Byte, Timer}
 use Rattle.link_receive.specs.declared.LinkAnswer.{LinkAnswer}
 use Rattle.link_receive.specs.declared.LinkAnswer.the-variants.{Message}
-use Rattle.c_interface.specs.Link.{smallResponse}
+use Rattle.c_interface.specs.Link.{SmallResponse}
 
 -- of an answer that is a message
-pub message-bound : (n : ℕ) {a : LinkAnswer} → smallResponse (responseOf a) ≡ true → a ≡ Message n → n ≤ maxData
-message-bound n short told = leb-true n maxData (sym (ap (λ (x : LinkAnswer). smallResponse (responseOf x)) told) ∙ short)
+pub message-bound : (n : ℕ) {a : LinkAnswer} → SmallResponse (responseOf a) → a ≡ Message n → n ≤ maxData
+message-bound n short told = subst (λ (x : LinkAnswer). SmallResponse (responseOf x)) told short
 
 abbrev short : Reaction → Type 0
-short r = smallResponse (r .response) ≡ true
+short r = SmallResponse (r .response)
 
 abbrev shortOut : Outcome → Type 0
 shortOut o = short (o .reaction)
@@ -37,38 +38,38 @@ shortOut o = short (o .reaction)
 rest-short : (b : ℕ) → short (restOf b)
 unfolding restOf
 rest-short b =
-    pick-either short (eqb b STX) refl (pick-either short (eqb b NAK) refl refl)
+    pick-either short (eqb b STX) (omega arith) (pick-either short (eqb b NAK) tt (omega arith))
 
 data-short : (n c b : ℕ) (buf : List ℕ) → shortOut (dataOf n c b buf)
 unfolding dataOf storeOf afterStore
 data-short n c b buf =
-    pick-either (λ (s : Storing). short (afterStore (s .stored))) (noRoom n buf) refl refl
+    pick-either (λ (s : Storing). short (afterStore (s .stored))) (noRoom n buf) (omega arith) tt
 
 inside-short : (d : Dle) (n c b : ℕ) (buf : List ℕ) → shortOut (insideOf d n c b buf)
 unfolding insideOf
 inside-short NotSeen n c b buf =
-    pick-either shortOut (eqb b DLE) refl (data-short n c b buf)
-inside-short Seen n c b buf = pick-either shortOut (eqb b DLE) (data-short n c b buf) (pick-either shortOut (eqb b ETX) refl refl)
+    pick-either shortOut (eqb b DLE) tt (data-short n c b buf)
+inside-short Seen n c b buf = pick-either shortOut (eqb b DLE) (data-short n c b buf) (pick-either shortOut (eqb b ETX) tt (omega arith))
 
 waiting-short : (n c b : ℕ) → n ≤ maxData → short (waitingOf n c b)
 unfolding waitingOf
-waiting-short n c b most = pick-either short (eqb b c) (le-leb n maxData most) refl
+waiting-short n c b most = pick-either short (eqb b c) most (omega arith)
 
 event-short : (e : LinkEvent) (p : Phase) (n c : ℕ) (buf : List ℕ) → n ≤ maxData → shortOut (eventOf e (at p n c) buf)
 unfolding eventOf byteOf timerOf
 event-short (Byte b) Rest n c buf most = rest-short b
 event-short (Byte b) (Inside d) n c buf most = inside-short d n (bitXor c b) b buf
 event-short (Byte b) Waiting n c buf most = waiting-short n c b most
-event-short Timer Rest n c buf most = refl
-event-short Timer (Inside d) n c buf most = refl
-event-short Timer Waiting n c buf most = refl
+event-short Timer Rest n c buf most = tt
+event-short Timer (Inside d) n c buf most = omega arith
+event-short Timer Waiting n c buf most = omega arith
 
 by-limit : (s : LinkState) (e : LinkEvent) (buf : List ℕ) (t u : Bool) → ltb maxData (s .count) ≡ u →
     shortOut (pick (t || u) (with (to (refuses 1) s) buf) (eventOf e s buf))
-by-limit s e buf true u is = refl
-by-limit s e buf false true is = refl
+by-limit s e buf true u is = tt
+by-limit s e buf false true is = tt
 by-limit s e buf false false is = event-short e (s .phase) (s .count) (s .check) buf (ltb-false maxData (s .count) is)
 
-pub response-small : (s : LinkState) (e : LinkEvent) (buf : List ℕ) → smallResponse (receiveOf s e buf .reaction .response) ≡ true
+pub response-small : (s : LinkState) (e : LinkEvent) (buf : List ℕ) → SmallResponse (receiveOf s e buf .reaction .response)
 unfolding receiveOf against
 response-small s e buf = by-limit s e buf (ltb (length buf) (s .count)) (ltb maxData (s .count)) refl

@@ -3,24 +3,22 @@
 use mathlib.Core.Path.{_≡_, refl, sym, _∙_, ap}
 use mathlib.Core.Bool.{true, false, and-false, and-eq-true-iff}
 use mathlib.Core.List.{List, [], _∷_, _++_, append-nil}
-use Prim.Native.Nat.{ℕ, _+_, _-_, _≤_}
+use Prim.Native.Nat.{ℕ, _-_, _≤_}
 use native.Mathlib.Omega.{arith}
 use borrow.Author.Tests.{eqb-true, eq-eqb, ne-eqb}
 use lib.Dec.{eqb}
-use lib.ListN.{length, drop, length-drop, drop-of-length-le}
+use lib.ListN.{length, length-drop, drop-of-length-le}
 use lib.Seq.{sets}
 use Rattle.base.specs.Places.{placed}
-use Rattle.base.proofs.Places.{sets-placed}
-use Rattle.mop_header.specs.Header.{Head, headerLength, bodyOf}
-use Rattle.mop_header.specs.Reading.{reading}
-use Rattle.mop_header.specs.declared.Reader.the-variants.{Centre}
-use Rattle.mop_header.proofs.ReadBack.{is-written}
+use Rattle.base.proofs.Places.{take-rest, sets-placed}
+use Rattle.mop_header.specs.Reading.{maxTelegram}
 use Rattle.mop_centre.specs.Request.{maxRoute}
-use Rattle.mop_centre.specs.Reply.{Receipt, Answer, accepted, notMine, refuses, readOut, unread, opened, replyReceipt, replyReading}
-use Rattle.mop_centre.proofs.Replies.{accepted-passed, body-room, reply-read, not-mine-read, refused-read}
+use Rattle.mop_centre.specs.Reply.{Receipt, accepted, notMine, refuses, Answer, unread, replyReading}
+use Rattle.mop_centre.proofs.Replies.{not-mine-read, refused-read, receipt-told, stretch-room, stretch-bytes}
+use Rattle.centre_laws.proofs.Replies.{accepted-is-reply}
 use Rattle.c_interface.specs.Answer.{refused}
 use Rattle.c_interface.specs.Answer as answers
-use Rattle.c_interface.specs.Centre.{hasReplyPlaces, placeNumber, replyTold, replyToldBy, readReplyCall}
+use Rattle.c_interface.specs.Centre.{ofReceipt, hasReplyPlaces, replyTold, replyToldBy, readReplyCall}
 
 -- the places, by their lengths
 pub record Places (route run : List ℕ) : Type 0 where
@@ -55,52 +53,6 @@ module _ (telegram route run : List ℕ) where
   unfolding readReplyCall
   with-places h = rw h
 
--- the receipt stands in the reading
-receipt-opened : (r : Receipt) (h : Head) (telegram : List ℕ) → opened r h telegram .answer .receipt ≡ r
-unfolding opened readOut unread
-receipt-opened accepted h telegram = refl
-receipt-opened notMine h telegram = refl
-receipt-opened (refuses k) h telegram = refl
-
-pub receipt-read : (telegram : List ℕ) → replyReading telegram .answer .receipt ≡ replyReceipt telegram
-unfolding replyReading
-receipt-read telegram = receipt-opened (replyReceipt telegram) (reading Centre telegram .header) telegram
-
--- of an accepted reply: the values are the end of a telegram that is not too long
-module _ (telegram : List ℕ) (a : replyReceipt telegram ≡ accepted) where
-  abbrev header : Head
-  header = reading Centre telegram .header
-
-  read : replyReading telegram ≡ readOut header (bodyOf header telegram)
-  read = reply-read telegram refl a
-
-  room : headerLength header + 3 ≤ length telegram
-  room = body-room telegram refl a
-
-  values-long : length (replyReading telegram .values) ≡ length telegram - (headerLength header + 3)
-  unfolding readOut bodyOf
-  values-long =
-      rw read (omega (arith, length-drop 3 (drop (headerLength header) telegram), length-drop (headerLength header) telegram))
-
-  pub values-within : length (replyReading telegram .values) ≤ length telegram
-  values-within = omega (arith, values-long)
-
-  pub telegram-short : length telegram ≤ 1024
-  telegram-short = is-written Centre telegram header (accepted-passed telegram a .order) .short
-
-  pub accepted-place : placeNumber (replyReading telegram .begins) ≡ length telegram - length (replyReading telegram .values)
-  unfolding readOut
-  accepted-place = ap (λ (r : _). placeNumber (r .begins)) read ∙ omega (arith, values-long, room)
-
--- of any other no place is told
-pub not-mine-place : (telegram : List ℕ) → replyReceipt telegram ≡ notMine → placeNumber (replyReading telegram .begins) ≡ 0
-unfolding unread
-not-mine-place telegram e = rw (not-mine-read telegram e)
-
-pub refused-place : (telegram : List ℕ) {k : ℕ} → replyReceipt telegram ≡ refuses k → placeNumber (replyReading telegram .begins) ≡ 0
-unfolding unread
-refused-place telegram e = rw (refused-read telegram e)
-
 -- a route that is put into its places fills them all
 fills : (new old : List ℕ) → length new ≡ length old → sets old 0 new ≡ new
 unfolding placed
@@ -110,20 +62,27 @@ fills new old e =
 pub route-put : (stations route run : List ℕ) → hasReplyPlaces route run ≡ true → length stations ≡ maxRoute → sets route 0 stations ≡ stations
 route-put stations route run has long = fills stations route (long ∙ sym (places-parts route run has .route-long))
 
--- what is told, by the receipt
+-- what is told of a telegram
 module _ (telegram : List ℕ) {told : Answer} (is : told ≡ replyReading telegram .answer) where
-  pub receipt-told : {r : Receipt} → told .receipt ≡ r → replyReceipt telegram ≡ r
-  receipt-told e = sym (receipt-read telegram) ∙ ap (λ (a : Answer). a .receipt) (sym is) ∙ e
+  -- the values of an accepted reply are the end of a telegram that is not too long
+  module _ (a : told .receipt ≡ accepted) where
+    pub telegram-short : length telegram ≤ maxTelegram
+    telegram-short = accepted-is-reply telegram (ap (λ (t : Answer). t .receipt) (sym is) ∙ a) .1 .well .short
 
-  pub tells-accepted : told .receipt ≡ accepted → {bytes run : List ℕ} → bytes ≡ replyReading telegram .values →
-      run ≡ told .start ∷ told .count ∷ (length telegram - length bytes) ∷ [] →
-      replyTold (length bytes) (told .route) run ≡ replyToldBy (replyReading telegram)
-  tells-accepted e same put = rw (put, ← is, e, accepted-place telegram (receipt-told e), same)
+    pub values-long : length telegram - told .place ≡ length (replyReading telegram .values)
+    values-long = sym (length-drop (told .place) telegram) ∙ ap length (sym (take-rest (told .place) telegram) ∙ stretch-bytes telegram is a)
 
-  pub tells-not-mine : told .receipt ≡ notMine → {run : List ℕ} → run ≡ told .start ∷ told .count ∷ 0 ∷ [] →
-      replyTold answers.notMine (told .route) run ≡ replyToldBy (replyReading telegram)
-  tells-not-mine e put = rw (put, ← is, e, not-mine-place telegram (receipt-told e))
+  -- of any other the place is 0
+  place-by : (x : Receipt) → told .receipt ≡ x → told .place ≤ maxTelegram
+  unfolding unread
+  place-by accepted e = omega (arith, stretch-room telegram is e, telegram-short e)
+  place-by notMine e = rw (is, not-mine-read telegram (receipt-told telegram is e)) (omega arith)
+  place-by (refuses k) e = rw (is, refused-read telegram (receipt-told telegram is e)) (omega arith)
 
-  pub tells-refused : {k : ℕ} → told .receipt ≡ refuses k → {run : List ℕ} → run ≡ told .start ∷ told .count ∷ 0 ∷ [] →
-      replyTold (refused k) (told .route) run ≡ replyToldBy (replyReading telegram)
-  tells-refused e put = rw (put, ← is, e, refused-place telegram (receipt-told e))
+  pub place-small : told .place ≤ maxTelegram
+  place-small = place-by (told .receipt) refl
+
+  -- what is written and given back, by the receipt
+  pub tells : {x : Receipt} {n : ℕ} {route run : List ℕ} → told .receipt ≡ x → n ≡ ofReceipt x (replyReading telegram .values) →
+      route ≡ told .route → run ≡ told .start ∷ told .count ∷ told .place ∷ [] → replyTold n route run ≡ replyToldBy (replyReading telegram)
+  tells e value stations numbers = rw (value, stations, numbers, ← is, e)

@@ -1,77 +1,107 @@
--- A dry run has at most 62 transmissions, and the last is no longer than 1,024 bytes.
+-- A dry run has at most 62 transmissions, the last is no longer than 1,024 bytes, and a refusal that ends it has a number from 7 to
+-- 10.
 -- Assumes nothing.
-use mathlib.Core.Path.{_≡_, refl, sym, _∙_, ap}
-use mathlib.Core.Bool.{Bool, true, false, _&&_, and-eq-true-iff}
-use mathlib.Core.List.{List, [], _∷_}
+use mathlib.Core.Path.{_≡_, refl, sym, subst}
+use mathlib.Core.Bool.{Bool, true, false, _&&_, and-eq-true-iff, false≢true}
+use mathlib.Core.List.{List, [], _∷_, _++_}
 use Prim.Native.Nat.{ℕ, _≤_}
 use native.Mathlib.Omega.{arith}
-use borrow.Author.Tests.{eq-eqb, ne-eqb, leb-true, le-leb, ltb-false}
+use borrow.Author.Tests.{eq-eqb, ne-eqb, leb-true, ltb-false}
 use lib.Dec.{leb, ltb}
 use lib.ListN.{length}
-use Rattle.mop_header.specs.Reading.{Finding, fine, fault, tooLong, reading}
+use Rattle.mop_header.specs.Header.{Head}
+use Rattle.mop_header.specs.Reading.{Reading, sound, faulty, maxTelegram, tooLong, reading}
 use Rattle.mop_header.specs.declared.Reader.the-variants.{Station}
-use Rattle.mop_header.proofs.ReadBack.{reading-fine, fine-short}
-use Rattle.journey.specs.Terms.{lastTelegram, isFine, allFine}
+use Rattle.mop_header.proofs.ReadBack.{is-written}
+use Rattle.mop_station.specs.Station.{Handled, refuses}
+use Rattle.journey.specs.Journey.{Ending, refusedWith}
+use Rattle.journey.specs.Terms.{lastTelegram, isFine, allFine, ordinary, allOrdinary}
 use Rattle.journey.specs.Bounded.{mostTransmissions}
 use Rattle.journey.proofs.Whole.{at-most-62}
 use Rattle.net.specs.Tables.{netOf, setUp}
-use Rattle.net.specs.DryRun.{outcomeOf, DryRun, runOutput, ofCourse, runOf, dryRun, RanTheJourney}
+use Rattle.net.specs.DryRun.{Outcome, played, outright, outcomeOf, DryRun, runOutput, ofCourse, runOf, dryRun, RanTheJourney}
 use Rattle.net.specs.declared.JourneyEnd.{JourneyEnd}
 use Rattle.net.specs.declared.DryRunAnswer.{DryRunAnswer}
 use Rattle.net.specs.declared.DryRunAnswer.the-variants.{Played}
 use Rattle.net.proofs.Tables.{good-net}
 use Rattle.net.proofs.Journeys.{runs-the-journey}
 use Rattle.c_interface.specs.Answer.{refused}
-use Rattle.c_interface.specs.Net.{smallRun, ran, ranBy, dryRunCall}
+use Rattle.c_interface.specs.Net.{SmallRun, ran, ranBy, dryRunCall}
 
-fine-found : (f : Finding) → isFine f ≡ true → f ≡ fine
-fine-found fine e = refl
-fine-found (fault k) e = absurd (let z : true ≡ false = sym e in let x : _≡_ {A = ℕ} 0 1 = cc in omega arith)
+-- the last of telegrams without a fault in their headers is short
+fine-short : (tg : List ℕ) (r : Reading) → reading Station tg ≡ r → isFine r ≡ true → length tg ≤ maxTelegram
+fine-short tg (sound h) e f = is-written Station tg h e .short
+fine-short tg (faulty k) e f = absurd (false≢true f)
 
-last-short : (l : List (List ℕ)) → allFine l ≡ true → length (lastTelegram l) ≤ 1024
+last-short : (l : List (List ℕ)) → allFine l ≡ true → length (lastTelegram l) ≤ maxTelegram
 unfolding lastTelegram
 last-short [] e = omega arith
-last-short (tg ∷ []) e =
-    fine-short Station tg (fine-found (reading Station tg .finding) (and-eq-true-iff (isFine (reading Station tg .finding)) true .0 e .0))
-last-short (tg ∷ next ∷ rest) e =
-    last-short (next ∷ rest) (and-eq-true-iff (isFine (reading Station tg .finding)) (allFine (next ∷ rest)) .0 e .1)
+last-short (tg ∷ []) e = fine-short tg (reading Station tg) refl (and-eq-true-iff (isFine (reading Station tg)) true .0 e .0)
+last-short (tg ∷ next ∷ rest) e = last-short (next ∷ rest) (and-eq-true-iff (isFine (reading Station tg)) (allFine (next ∷ rest)) .0 e .1)
 
-small : (count n : ℕ) → count ≤ mostTransmissions → n ≤ runOutput → (leb count mostTransmissions && leb n runOutput) ≡ true
-small count n a b = rw (le-leb count mostTransmissions a, le-leb n runOutput b)
+-- the last of ordinary answers, where it is a refusal
+last-ordinary : (k : ℕ) (earlier : List Handled) → allOrdinary (earlier ++ (refuses k ∷ [])) ≡ true → (7 ≤ k) × (k ≤ 10)
+last-ordinary k [] e =
+    let p = and-eq-true-iff (leb 7 k) (leb k 10) .0 (and-eq-true-iff (leb 7 k && leb k 10) true .0 e .0) in
+    (leb-true 7 k (p .0), leb-true k 10 (p .1))
+last-ordinary k (a ∷ earlier) e = last-ordinary k earlier (and-eq-true-iff (ordinary a) (allOrdinary (earlier ++ (refuses k ∷ []))) .0 e .1)
+
+same-ending : {count₁ count n₁ n : ℕ} (e₁ e : Ending) → played count₁ e₁ n₁ ≡ played count e n → e₁ ≡ e
+same-ending e₁ e is = cc
 
 module _ (tg addresses tables out : List ℕ) where
-  small-course : (e : reading Station tg .finding ≡ fine) → setUp addresses tables ≡ true → (r : RanTheJourney tg addresses tables out) →
-      smallRun (ofCourse (r .journey .course) out .outcome) ≡ true
+  -- what holds of every refusal, and of the journey of a telegram that reads well, holds of the outcome
+  module _ (P : Outcome → Type 0) (refusal : (k : ℕ) → P (outright k))
+      (journey : (h : Head) → reading Station tg ≡ sound h → setUp addresses tables ≡ true → (r : RanTheJourney tg addresses tables out) →
+      P (ofCourse (r .journey .course) out .outcome)) where
+    by-tests : (s l o : Bool) (r : Reading) → setUp addresses tables ≡ s → tooLong tg ≡ l → ltb (length out) runOutput ≡ o →
+        reading Station tg ≡ r → P (dryRun tg addresses tables out .outcome)
+    unfolding dryRun runOf
+    by-tests false l o r es el eo er = rw es (refusal 1)
+    by-tests true true o r es el eo er = rw (es, el) (refusal 12)
+    by-tests true false true r es el eo er = rw (es, el, eo) (refusal 11)
+    by-tests true false false (faulty k) es el eo er = rw (es, el, eo, er) (refusal k)
+    by-tests true false false (sound h) es el eo er =
+        let ran = runs-the-journey tg addresses tables out h es (ltb-false (length out) runOutput eo) er in
+        subst (λ (d : DryRun). P (d .outcome)) (sym (ran .gives)) (journey h er es ran)
+
+    outcome-by : P (dryRun tg addresses tables out .outcome)
+    outcome-by = by-tests (setUp addresses tables) (tooLong tg) (ltb (length out) runOutput) (reading Station tg) refl refl refl refl
+
+  small-journey : (h : Head) → reading Station tg ≡ sound h → setUp addresses tables ≡ true → (r : RanTheJourney tg addresses tables out) →
+      SmallRun (ofCourse (r .journey .course) out .outcome)
   unfolding ofCourse
-  small-course e set r =
-      let c = r .journey .course in
-      small (length (c .transmissions)) (length (lastTelegram (c .transmissions)))
-      (at-most-62 (netOf addresses tables) tg c (good-net addresses tables set) (r .journey .journey))
-      (last-short (c .transmissions) (r .journey .demand3 .all-fine (reading Station tg .header) (reading-fine Station tg e)))
+  small-journey h read set r =
+      let c = r .journey .course in (
+        at-most-62 (netOf addresses tables) tg c (good-net addresses tables set) (r .journey .journey),
+        last-short (c .transmissions) (r .journey .demand3 .all-fine h read),
+      )
 
-  by-tests : (s l o : Bool) (f : Finding) → setUp addresses tables ≡ s → tooLong tg ≡ l → ltb (length out) runOutput ≡ o →
-      reading Station tg .finding ≡ f → smallRun (dryRun tg addresses tables out .outcome) ≡ true
-  unfolding dryRun runOf
-  by-tests false l o f es el eo ef = rw es
-  by-tests true true o f es el eo ef = rw (es, el)
-  by-tests true false true f es el eo ef = rw (es, el, eo)
-  by-tests true false false (fault k) es el eo ef = rw (es, el, eo, ef)
-  by-tests true false false fine es el eo ef =
-      let ran = runs-the-journey tg addresses tables out es (ltb-false (length out) runOutput eo) ef in
-      ap (λ (d : DryRun). smallRun (d .outcome)) (ran .gives) ∙ small-course ef es ran
+  pub small-run : SmallRun (dryRun tg addresses tables out .outcome)
+  small-run = outcome-by SmallRun (λ k. tt) small-journey
 
-  pub small-run : smallRun (dryRun tg addresses tables out .outcome) ≡ true
-  small-run = by-tests (setUp addresses tables) (tooLong tg) (ltb (length out) runOutput) (reading Station tg .finding) refl refl refl refl
+  -- where a run ends with a refusal, a called station gave it
+  abbrev Ended : Outcome → Type 0
+  Ended o = (count k n : ℕ) → o ≡ played count (refusedWith k) n → (7 ≤ k) × (k ≤ 10)
 
--- of an outcome that is a run
-pub record Small (count n : ℕ) : Type 0 where
-  pub count-small : count ≤ mostTransmissions
-  pub last-small : n ≤ runOutput
+  not-ended : (k : ℕ) → Ended (outright k)
+  not-ended k count k₁ n e = let z : _≡_ {A = ℕ} 0 1 = cc in absurd (omega arith)
 
-pub small-parts : (count : ℕ) (e : JourneyEnd) (n : ℕ) {a : DryRunAnswer} → smallRun (outcomeOf a) ≡ true → a ≡ Played count e n → Small count n
-small-parts count e n s told =
-    let p = and-eq-true-iff (leb count mostTransmissions) (leb n runOutput) .0 (sym (ap (λ (x : DryRunAnswer). smallRun (outcomeOf x)) told) ∙ s) in
-    record { count-small = leb-true count mostTransmissions (p .0); last-small = leb-true n runOutput (p .1) }
+  ended-journey : (h : Head) → reading Station tg ≡ sound h → setUp addresses tables ≡ true → (r : RanTheJourney tg addresses tables out) →
+      Ended (ofCourse (r .journey .course) out .outcome)
+  unfolding ofCourse
+  ended-journey h read set r count k n e =
+      let d = r .journey .demand3 in
+      let by = d .refused-by h read k (same-ending (r .journey .course .ending) (refusedWith k) e) in
+      last-ordinary k (by .0) (subst (λ (l : List Handled). allOrdinary l ≡ true) (by .1) (d .all-ordinary h read))
+
+  pub refusal-told : Ended (dryRun tg addresses tables out .outcome)
+  refusal-told = outcome-by Ended not-ended ended-journey
+
+-- of an answer that is a run
+pub small-parts : (count : ℕ) (e : JourneyEnd) (n : ℕ) {a : DryRunAnswer} → SmallRun (outcomeOf a) → a ≡ Played count e n →
+    (count ≤ mostTransmissions) × (n ≤ runOutput)
+small-parts count e n small told = subst (λ (x : DryRunAnswer). SmallRun (outcomeOf x)) told small
 
 -- the call, by the length of the result
 module _ (tg addresses tables out result : List ℕ) where

@@ -1,5 +1,5 @@
 -- How large the numbers of an answer are. Every value is far below 2^32 and every kind below 256, so that value and kind can be told
--- apart, and nothing stands above them.
+-- apart, and nothing stands above them; and how the number of an ending is told from those of the other endings.
 -- Assumes nothing.
 use Prim.Native.Nat.{ℕ, _≤_}
 use mathlib.Core.Path.{_≡_}
@@ -17,7 +17,7 @@ use Rattle.mop_station.specs.Station.{sent, handling}
 use Rattle.mop_centre.specs.Request.{requesting}
 use Rattle.mop_centre.specs.Reply.{accepted, replyReceipt, replyReading}
 use Rattle.centre_laws.specs.ReadBack.{maxRequest}
-use Rattle.journey.specs.Journey.{Ending}
+use Rattle.journey.specs.Journey.{Ending, refusedWith}
 use Rattle.journey.specs.Bounded.{mostTransmissions}
 use Rattle.net.specs.DryRun.{played, runOutput, dryRun}
 
@@ -37,3 +37,6 @@ pub record ValueBounds : Type 0 where
   pub reply : (telegram : List ℕ) → replyReceipt telegram ≡ accepted → length (replyReading telegram .values) ≤ maxTelegram
   pub run : (telegram addresses tables out : List ℕ) (count : ℕ) (e : Ending) (n : ℕ) →
       dryRun telegram addresses tables out .outcome ≡ played count e n → (count ≤ mostTransmissions) × (n ≤ runOutput)
+  -- the ending of a run is told by one number: that of a station's refusal is neither 0, at an entry 00, nor 1, at nobody's address
+  pub ending : (telegram addresses tables out : List ℕ) (count k n : ℕ) →
+      dryRun telegram addresses tables out .outcome ≡ played count (refusedWith k) n → (7 ≤ k) × (k ≤ 10)

@@ -7,7 +7,7 @@ use lib.Dec.{eqb}
 use lib.ListN.{length}
 use Rattle.base.specs.Choice.{pick}
 use Rattle.mop_centre.specs.Request.{requesting, maxRoute}
-use Rattle.mop_centre.specs.Reply.{Receipt, accepted, refuses, Place, at, anywhere, ReplyReading, replyReading}
+use Rattle.mop_centre.specs.Reply.{Receipt, accepted, refuses, ReplyReading, replyReading}
 use Rattle.mop_centre.specs.Reply as centre
 use Rattle.c_interface.specs.Answer.{done, notMine, refused}
 use Rattle.c_interface.specs.Link.{Written, writtenBy}
@@ -22,12 +22,7 @@ ofReceipt accepted bytes = done (length bytes)
 ofReceipt centre.notMine bytes = notMine
 ofReceipt (refuses k) bytes = refused k
 
--- the place of the first of these bytes in the telegram; 0 where none is told
-abbrev pub placeNumber : Place → ℕ
-placeNumber (at place) = place
-placeNumber anywhere = 0
-
--- the answer, and the route and the run afterwards; a run is start, count and place
+-- the answer, and the route and the run afterwards; a run is start, count and the place of the first byte of the values
 pub record ReplyTold : Type 0 where
   pub answer : ℕ
   pub route : List ℕ
@@ -40,7 +35,7 @@ replyTold r route run = record { answer = r; route = route; run = run }
 abbrev pub replyToldBy : ReplyReading → ReplyTold
 replyToldBy r =
     replyTold (ofReceipt (r .answer .receipt) (r .values)) (r .answer .route)
-    (r .answer .start ∷ r .answer .count ∷ placeNumber (r .begins) ∷ [])
+    (r .answer .start ∷ r .answer .count ∷ r .answer .place ∷ [])
 
 -- whether there are places for a route of 31 and for a run of three numbers
 unfoldable pub hasReplyPlaces : List ℕ → List ℕ → Bool

@@ -1,7 +1,7 @@
 -- The calls of the link: hanraquin_frame and hanraquin_receive.
 -- Assumes nothing.
-use Prim.Native.Nat.{ℕ, _+_}
-use mathlib.Core.Bool.{Bool, true, not, _&&_}
+use Prim.Native.Nat.{ℕ, _+_, _≤_}
+use mathlib.Core.Bool.{Bool, not, _&&_}
 use mathlib.Core.List.{List, [], _∷_}
 use lib.Dec.{eqb, leb, ltb}
 use lib.ListN.{length, getD}
@@ -90,8 +90,8 @@ receiveCall words event buf =
     (received (refused 1) words buf)
 
 -- a message is no longer than a block holds, and what is sent is a byte
-abbrev pub smallResponse : Response → Bool
-smallResponse (delivers b n) = leb n maxData
-smallResponse (sends b) = leb b 255
-smallResponse nothing = true
-smallResponse (refuses k) = true
+abbrev pub SmallResponse : Response → Type 0
+SmallResponse (delivers b n) = n ≤ maxData
+SmallResponse (sends b) = b ≤ 255
+SmallResponse nothing = Unit
+SmallResponse (refuses k) = Unit

@@ -1,9 +1,8 @@
 -- The call of a dry run: hanraquin_dry_run.
 -- Assumes nothing.
-use Prim.Native.Nat.{ℕ}
-use mathlib.Core.Bool.{Bool, true, _&&_}
+use Prim.Native.Nat.{ℕ, _≤_}
 use mathlib.Core.List.{List, [], _∷_}
-use lib.Dec.{eqb, leb}
+use lib.Dec.{eqb}
 use lib.ListN.{length}
 use Rattle.base.specs.Choice.{pick}
 use Rattle.journey.specs.Journey.{Ending, atZero, atNobody, refusedWith}
@@ -46,6 +45,6 @@ dryRunCall telegram addresses tables out result =
     pick (eqb (length result) 3) (ranBy (dryRun telegram addresses tables out) result) (ran (refused 1) tables out result)
 
 -- no more transmissions than a journey can have, and the last telegram in the places of the output
-abbrev pub smallRun : Outcome → Bool
-smallRun (played count e n) = leb count mostTransmissions && leb n runOutput
-smallRun (outright k) = true
+abbrev pub SmallRun : Outcome → Type 0
+SmallRun (played count e n) = (count ≤ mostTransmissions) × (n ≤ runOutput)
+SmallRun (outright k) = Unit

@@ -16,7 +16,6 @@ use refusal::WriteAnswer;
 ghost use mathlib.Core.Path.{_≡_};
 ghost use mathlib.Core.Bool.{true};
 ghost use mathlib.Core.List.{[], _∷_};
-ghost use Prim.Native.Nat.{_<_};
 ghost use lib.ListN.{length};
 ghost use Rattle.refusal.specs.Numbers.{numberOf};
 ghost use Rattle.refusal.specs.Writing.{givenOf};
@@ -26,10 +25,10 @@ ghost use Rattle.mop_centre.specs.Reply.{replyReading};
 ghost use Rattle.net.specs.Hop.{endingOf};
 ghost use Rattle.net.specs.DryRun.{outcomeOf};
 ghost use Rattle.c_interface.specs.Answer.{refused, ofWriting};
-ghost use Rattle.c_interface.specs.Link.{written, frameCall, dleAt, phaseNumber, phaseAt, stateWords, stateAt, isState, eventAt, ofResponse, smallResponse, received, receivedBy, receiveCall};
+ghost use Rattle.c_interface.specs.Link.{written, frameCall, dleAt, phaseNumber, phaseAt, stateWords, stateAt, isState, eventAt, ofResponse, SmallResponse, received, receivedBy, receiveCall};
 ghost use Rattle.c_interface.specs.Station.{ofHandled, atStation, stationCall};
 ghost use Rattle.c_interface.specs.Centre.{writeRequestCall, hasReplyPlaces, replyTold, replyToldBy, readReplyCall};
-ghost use Rattle.c_interface.specs.Net.{endingNumber, smallRun, ofOutcome, resultAfter, ran, dryRunCall};
+ghost use Rattle.c_interface.specs.Net.{endingNumber, SmallRun, ofOutcome, resultAfter, ran, dryRunCall};
 
 // What one step of the kind counts in an answer.
 const KINDS: u64 = 4294967296;
@@ -111,7 +110,7 @@ fn event_at(n: u32) -> LinkEvent
 
 // The answer to an event.
 fn of_response(answer: LinkAnswer) -> u64
-    requires { ⌜ smallResponse (responseOf answer) ≡ true ⌝ }
+    requires { ⌜ SmallResponse (responseOf answer) ⌝ }
     ensures { λ r. ⌜ r ≡ ofResponse (responseOf answer) ⌝ }
 {
     match answer {
@@ -232,32 +231,21 @@ fn tell_reply(telegram: &[u8], route: &mut [u8], run: &mut [u16]) -> u64
     ensures { λ r. ⌜ replyTold r (now (route .exit)) (now (run .exit)) ≡ replyToldBy (replyReading (now (telegram .entry))) ⌝ }
 {
     let reply = mop_centre::read_reply(telegram);
-    let start = reply.start;
-    let count = reply.count as u16;
     let stations = reply.route;
     places::put(&stations, &mut *route, 0);
+    let place = reply.values_at;
+    put_run(reply.start, reply.count as u16, place as u16, &mut *run);
     let verdict = reply.verdict;
     match verdict {
-        ReplyVerdict::Accepted => {
-            let n = mop_centre::read_reply_values(telegram).len();
-            let place = telegram.len() - n;
-            put_run(start, count, place as u16, &mut *run);
-            n as u64
-        }
-        ReplyVerdict::NotMine => {
-            put_run(start, count, 0, &mut *run);
-            NOT_MINE
-        }
-        ReplyVerdict::Refused(r) => {
-            put_run(start, count, 0, &mut *run);
-            refused(r)
-        }
+        ReplyVerdict::Accepted => (telegram.len() - place) as u64,
+        ReplyVerdict::NotMine => NOT_MINE,
+        ReplyVerdict::Refused(r) => refused(r),
     }
 }
 
-// What a reply to the centre says: mop_centre::read_reply and read_reply_values. The stations of the route fill the 31 places
-// of route, 0 behind them; run is the start, the count, and the place of the first byte of the values in the telegram. The
-// value is the number of these bytes.
+// What a reply to the centre says: mop_centre::read_reply. The stations of the route fill the 31 places of route, 0 behind them;
+// run is the start, the count, and the place of the first byte of the values in the telegram. The value is the number of these
+// bytes.
 // Not mine, or refused: 0 in all these places. Refused with 1, and all as it was: a route or a run of another length.
 #[no_mangle]
 pub extern "C" fn hanraquin_read_reply(telegram: &[u8], route: &mut [u8], run: &mut [u16]) -> u64
@@ -296,7 +284,7 @@ fn put_result(count: u32, ending: u32, last: u32, result: &mut [u32])
 // The answer of a dry run, and its result.
 fn of_outcome(answer: DryRunAnswer, result: &mut [u32]) -> u64
     requires { ⌜ length (now result) ≡ 3 ⌝ }
-    requires { ⌜ smallRun (outcomeOf answer) ≡ true ⌝ }
+    requires { ⌜ SmallRun (outcomeOf answer) ⌝ }
     ensures { λ r. ⌜ r ≡ ofOutcome (outcomeOf answer) ⌝ }
     ensures { λ r. ⌜ now (result .exit) ≡ resultAfter (outcomeOf answer) (now (result .entry)) ⌝ }
 {

@@ -17,16 +17,16 @@ use Rattle.link_laws.specs.Feeding.{feed}
 use Rattle.registers.specs.Rows.{tableLength, placeOf, exists, mayWrite, takes, factory}
 use Rattle.registers.specs.Runs.{runExists, runMayWrite, runTakes, writes, reads}
 use Rattle.mop_block.specs.Block.{isAddress, has, distinctAddresses, stations, zeroEnds, around, goodBlock, first, next, rolled, rollLeft, rollRight}
-use Rattle.mop_header.specs.Header.{addressBytes, headerBytes, headerLength, telegramOf, bodyOf, mayBegin, isMark, markByte, markIs, withMark, markAgrees, remarked, rolledLeft, rolledRight, asReply, sentBack}
-use Rattle.mop_header.specs.Reading.{sound, allowed, fine, functionAt, goodFor, judged, standardReading, extendedReading, reading}
+use Rattle.mop_header.specs.Header.{Head, addressBytes, headerBytes, headerLength, telegramOf, bodyOf, mayBegin, isMark, markByte, markIs, withMark, markAgrees, remarked, rolledLeft, rolledRight, asReply, sentBack}
+use Rattle.mop_header.specs.Reading.{sound, allowed, functionAt, goodFor, judged, standardReading, extendedReading, reading}
 use Rattle.mop_header.specs.declared.Function.the-variants.{Request}
 use Rattle.mop_header.specs.declared.Reader.the-variants.{Station}
-use Rattle.mop_header.proofs.ReadBack.{reading-fine}
 use Rattle.mop_body.specs.Body.{requestBody, replyWith}
 use Rattle.mop_station.specs.Body.{accepts, rejects, judgedRuns, judgedBody, afterWrites, replyBody}
-use Rattle.mop_station.specs.Station.{sending, relayed, relaying, replied, keptBy, answering, taking, hearing, handling}
+use Rattle.mop_station.specs.Step.{isStation, ifRoom, relayed, relaying, replied, answering, acting, stepping}
+use Rattle.mop_station.specs.Station.{sendingBy, hearing, handling}
 use Rattle.mop_centre.specs.Request.{goodRoute, requestHead, requestTelegram, requesting}
-use Rattle.mop_centre.specs.Reply.{judgedReply, receiving, replyReceipt, routePlaces, readOut, unread, opened, replyReading}
+use Rattle.mop_centre.specs.Reply.{judgedReply, receiving, routePlaces, readOut, unread, opened, openedBy, replyReading}
 use Rattle.journey.specs.Net.{rightTables, goodNet, isThere, allThere, upToMissing, tableAt, withTable}
 use Rattle.journey.specs.Journey.{Ending, atNobody, refusedWith, Course, named, addressee, handler}
 use Rattle.journey.specs.Bounded.{calling, playing, mostTransmissions}
@@ -36,8 +36,8 @@ use Rattle.centre_laws.proofs.Exchange.{every-exchange}
 use Rattle.net.specs.Tables.{netOf, tablesOf, tablesFit, setUp}
 use Rattle.journey.specs.Terms.{lastTelegram}
 use Rattle.net.specs.DryRun.{runOutput, played, leaves, padded, ofCourse, dryRun}
-use Rattle.report.specs.Text.{hexDigit, hexBytes, decimal, line, lines, sentText, endingText, closing, courseText, refusedText, outrightText}
-use Rattle.report.specs.Report.{reportOutput, reporting, toldOf}
+use Rattle.report.specs.Text.{hexDigit, hexBytes, decimal, headLine, lineOf, line, lines, sentText, endingText, closing, courseText, refusedText, outrightText}
+use Rattle.report.specs.Report.{tellsCourse, reportOutput, reporting, toldOf}
 use Rattle.report.specs.Report as report
 use Rattle.report.proofs.Journeys.{tells-the-journey}
 use Rattle.net.proofs.Tables.{good-net}
@@ -54,7 +54,7 @@ padded-alone tg h =
     ∙ append-nil (padded tg)
 
 -- what is played over stations with factory values is the journey that a dry run plays and a report tells
-module _ (addresses tg : List ℕ) (set : setUp addresses (factoryTables addresses) ≡ true) (well : reading Station tg .finding ≡ fine) where
+module _ (addresses tg : List ℕ) (set : setUp addresses (factoryTables addresses) ≡ true) (h : Head) (well : reading Station tg ≡ sound h) where
   abbrev course : Course
   course = playing mostTransmissions (factoryNet addresses) tg
 
@@ -63,16 +63,13 @@ module _ (addresses tg : List ℕ) (set : setUp addresses (factoryTables address
 
   dry-course : (out : List ℕ) → runOutput ≤ length out → dryRun tg addresses (factoryTables addresses) out ≡ ofCourse course out
   dry-course out room =
-      let ran = runs-the-journey tg addresses (factoryTables addresses) out set room well in
+      let ran = runs-the-journey tg addresses (factoryTables addresses) out h set room well in
       ran .gives ∙ ap (λ (c : Course). ofCourse c out) (sym (ran .journey .only course (plays-the-journey (factoryNet addresses) tg good)))
 
-  told-course : (out : List ℕ) → reportOutput ≤ length out →
-      reporting tg addresses (factoryTables addresses) out ≡ report.tells (courseText course) (tablesOf (course .after)) out
+  told-course : (out : List ℕ) → reportOutput ≤ length out → reporting tg addresses (factoryTables addresses) out ≡ tellsCourse course out
   told-course out room =
-      let told = tells-the-journey tg addresses (factoryTables addresses) out set room well in
-      told .tells-it
-      ∙ ap (λ (c : Course). report.tells (courseText c) (tablesOf (c .after)) out)
-      (sym (told .journey .only course (plays-the-journey (factoryNet addresses) tg good)))
+      let told = tells-the-journey tg addresses (factoryTables addresses) out h set room well in
+      told .tells-it ∙ ap (λ (c : Course). tellsCourse c out) (sym (told .journey .only course (plays-the-journey (factoryNet addresses) tg good)))
 
   travels-by : (transmissions : List (List ℕ)) (e : Ending) (after : List ℕ) → course .transmissions ≡ transmissions → course .ending ≡ e →
       tablesOf (course .after) ≡ after → leb (length (lastTelegram transmissions)) runOutput ≡ true → Travels addresses tg transmissions e after
@@ -107,19 +104,16 @@ suc-zero : {n : ℕ} → suc n ≡ 0 → ⊥
 suc-zero e = omega arith
 
 -- what demand 3 promises of it
-promised-by : (addresses tg : List ℕ) →
-    (let h = reading Station tg .header in goodNet (factoryNet addresses) ≡ true → reading Station tg .finding ≡ fine → h .function ≡ Request →
+promised-by : (addresses tg : List ℕ) (h : Head) → goodNet (factoryNet addresses) ≡ true → reading Station tg ≡ sound h → h .function ≡ Request →
     (first (h .block) ≡ 0 → ⊥) → getD (h .block) (length (h .block) - 1) 0 ≡ 0 → allThere (stations (h .block)) (factoryNet addresses) ≡ true →
-    judgedBody (bodyOf h tg) ≡ accepts → Promised addresses tg)
-promised-by addresses tg net order request named last there verdict =
-    let h = reading Station tg .header in
-    let read : reading Station tg ≡ sound h = reading-fine Station tg order in
+    judgedBody (bodyOf h tg) ≡ accepts → Promised addresses tg
+promised-by addresses tg h net order request named last there verdict =
     let t = every-journey (factoryNet addresses) tg net in
     record {
       head = h;
-      order = read;
+      order = order;
       journey = t;
-      accomplished = t .demand3 .accomplished h read (record { request = request; first-named = named; last-zero = last }) there verdict;
+      accomplished = t .demand3 .accomplished h order (record { request = request; first-named = named; last-zero = last }) there verdict;
     }
 
 -- what the exchange promises of a request of the centre
@@ -141,19 +135,19 @@ module _ (addresses route : List ℕ) (rStart rCount wStart : ℕ) (values : Lis
   unreached-by some = record { written = written; exchange = exchanged; outcome = exchanged .unreached some }
 
 pub worked-cases : WorkedCases
-unfolding placed fitted wordsOf bytesOf sent doubled xorOver checked checkByte frameOf framing against afterStore byteOf dataOf eventOf insideOf noRoom receiveOf restOf storeOf waitingOf feed tableLength placeOf exists mayWrite takes factory runExists runMayWrite runTakes writes reads isAddress has distinctAddresses stations zeroEnds around goodBlock first next rolled rollLeft rollRight addressBytes headerBytes headerLength telegramOf bodyOf mayBegin isMark markByte markIs withMark markAgrees remarked rolledLeft rolledRight asReply sentBack allowed functionAt goodFor judged standardReading extendedReading reading judgedRuns judgedBody afterWrites replyWith replyBody sending relayed relaying replied keptBy answering taking hearing handling rightTables goodNet isThere allThere upToMissing tableAt withTable named addressee handler calling playing netOf tablesOf tablesFit setUp lastTelegram padded hexDigit hexBytes decimal line lines sentText endingText closing courseText refusedText outrightText toldOf reporting requestBody goodRoute requestHead requestTelegram requesting judgedReply receiving replyReceipt routePlaces readOut unread opened replyReading
+unfolding placed fitted wordsOf bytesOf sent doubled xorOver checked checkByte frameOf framing against afterStore byteOf dataOf eventOf insideOf noRoom receiveOf restOf storeOf waitingOf feed tableLength placeOf exists mayWrite takes factory runExists runMayWrite runTakes writes reads isAddress has distinctAddresses stations zeroEnds around goodBlock first next rolled rollLeft rollRight addressBytes headerBytes headerLength telegramOf bodyOf mayBegin isMark markByte markIs withMark markAgrees remarked rolledLeft rolledRight asReply sentBack allowed functionAt goodFor judged standardReading extendedReading reading judgedRuns judgedBody afterWrites replyWith replyBody isStation ifRoom relayed relaying replied answering acting stepping sendingBy hearing handling rightTables goodNet isThere allThere upToMissing tableAt withTable named addressee handler calling playing netOf tablesOf tablesFit setUp lastTelegram padded hexDigit hexBytes decimal headLine lineOf line lines sentText endingText closing courseText refusedText outrightText toldOf reporting requestBody goodRoute requestHead requestTelegram requesting judgedReply receiving routePlaces readOut unread opened openedBy replyReading
 worked-cases =
     refl also refl also refl also refl also refl also refl also refl also refl also refl also refl also refl also refl also refl also refl also refl also refl
-    also refl also refl also travels-by _ _ refl refl _ _ _ refl refl refl refl
-    also tells-by _ _ refl refl _ refl
-    also promised-by _ _ refl refl refl suc-zero refl refl refl
-    also travels-by _ _ refl refl _ _ _ refl refl refl refl
-    also travels-by _ _ refl refl _ _ _ refl refl refl refl
-    also promised-by _ _ refl refl refl suc-zero refl refl refl
-    also tells-by _ _ refl refl _ refl
-    also travels-by _ _ refl refl _ _ _ refl refl refl refl
-    also tells-by _ _ refl refl _ refl
-    also travels-by _ _ refl refl _ _ _ refl refl refl refl
+    also refl also refl also travels-by _ _ refl _ refl _ _ _ refl refl refl refl
+    also tells-by _ _ refl _ refl _ refl
+    also promised-by _ _ _ refl refl refl suc-zero refl refl refl
+    also travels-by _ _ refl _ refl _ _ _ refl refl refl refl
+    also travels-by _ _ refl _ refl _ _ _ refl refl refl refl
+    also promised-by _ _ _ refl refl refl suc-zero refl refl refl
+    also tells-by _ _ refl _ refl _ refl
+    also travels-by _ _ refl _ refl _ _ _ refl refl refl refl
+    also tells-by _ _ refl _ refl _ refl
+    also travels-by _ _ refl _ refl _ _ _ refl refl refl refl
     also outright-by _ _ _ refl
     also refl also refl also refl also refl also refl also refl also refl also refl also refl also refl
     also answered-by _ _ _ _ _ _ _ refl refl refl refl

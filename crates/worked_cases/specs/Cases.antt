@@ -120,11 +120,11 @@ Holds (noRequest route rStart rCount wStart values places k) =
     requesting route rStart rCount wStart values (replicate places 0) ≡ denied k (replicate places 0)
 Holds (replies tg route start count bytes) =
     replyReading tg ≡ record {
-      answer = told accepted (route ++ replicate (31 - length route) 0) start count;
+      answer = told accepted (route ++ replicate (31 - length route) 0) start count (length tg - length bytes);
       values = bytes;
       begins = centre.at (length tg - length bytes);
     }
-Holds (noReply tg r) = replyReading tg ≡ record { answer = told r (replicate 31 0) 0 0; values = []; begins = anywhere }
+Holds (noReply tg r) = replyReading tg ≡ record { answer = told r (replicate 31 0) 0 0 0; values = []; begins = anywhere }
 Holds (asks addresses route rStart rCount wStart values n x) = Asked addresses route rStart rCount wStart values n x
 
 -- each case of a list holds

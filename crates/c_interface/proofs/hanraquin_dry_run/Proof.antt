@@ -1,8 +1,8 @@
 -- `hanraquin_dry_run`: the test of the result, and then the dry run.
 -- Assumes nothing.
-use mathlib.Core.Path.{sym, _∙_, ap}
+use mathlib.Core.Path.{sym, _∙_, ap, subst}
 use Rattle.net.specs.DryRun.{DryRun}
-use Rattle.c_interface.specs.Net.{smallRun, ranBy}
+use Rattle.c_interface.specs.Net.{SmallRun, ranBy}
 use Rattle.c_interface.proofs.Runs.{small-run, bad-result, good-result}
 use borrow.Author.Needs.{needs}
 use Rattle.c_interface.proofs.hanraquin_dry_run.Statement.{statement}
@@ -18,7 +18,7 @@ dry-run-requires : tie.Need-dry-run-requires
 dry-run-requires c κs = search needs
 
 of-outcome-requires : tie.Need-of-outcome-requires
-of-outcome-requires c κs = (c .before .before .before .before .before .before .before .before .if1 .left, ap (λ (d : DryRun). smallRun (d .outcome)) (c .before .before .before .before .before .dry-run .ensures) ∙ small-run _ _ _ _)
+of-outcome-requires c κs = (c .before .before .before .before .before .before .before .before .if1 .left, subst (λ (d : DryRun). SmallRun (d .outcome)) (sym (c .before .before .before .before .before .dry-run .ensures)) (small-run _ _ _ _))
 
 same-length : tie.Need-same-length
 same-length c = search needs

@@ -12,7 +12,7 @@ enum-known-answer c = search needs
 cast-put-result : tie.Need-cast-put-result
 cast-put-result c =
     let small = small-parts _ _ _ (c .before .before .before .before .pre .1) (c .before .answer .given .1) in
-    search (needs, small .count-small)
+    search (needs, small .0)
 
 ending-number-requires : tie.Need-ending-number-requires
 ending-number-requires c κs = search needs
@@ -20,7 +20,7 @@ ending-number-requires c κs = search needs
 cast-put-result-2 : tie.Need-cast-put-result-2
 cast-put-result-2 c =
     let small = small-parts _ _ _ (c .before .before .before .before .before .pre .1) (c .before .before .answer .given .1) in
-    search (needs, small .last-small)
+    search (needs, small .1)
 
 put-result-requires : tie.Need-put-result-requires
 put-result-requires c κs = search needs

@@ -1,8 +1,8 @@
 -- `receive_at`: the numbers are read as a state, and the next state is written.
 -- Assumes nothing.
 use native.Mathlib.Omega.{arith}
-use mathlib.Core.Path.{_∙_, ap}
-use Rattle.c_interface.specs.Link.{smallResponse, receivedBy}
+use mathlib.Core.Path.{sym, ap, subst}
+use Rattle.c_interface.specs.Link.{SmallResponse, receivedBy}
 use Rattle.link_receive.specs.Receive.{Outcome}
 use Rattle.c_interface.proofs.States.{state-parts}
 use Rattle.c_interface.proofs.Messages.{response-small}
@@ -35,7 +35,7 @@ put-state-requires : tie.Need-put-state-requires
 put-state-requires c κs = state-parts _ (c .before .before .before .before .before .before .before .before .before .before .before .before .before .pre) .three
 
 of-response-requires : tie.Need-of-response-requires
-of-response-requires c κs = ap (λ (o : Outcome). smallResponse (o .reaction .response)) (c .before .before .before .before .before .before .before .receive .ensures) ∙ response-small _ _ _
+of-response-requires c κs = subst (λ (o : Outcome). SmallResponse (o .reaction .response)) (sym (c .before .before .before .before .before .before .before .receive .ensures)) (response-small _ _ _)
 
 same-length : tie.Need-same-length
 same-length c = search needs
