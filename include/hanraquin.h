@@ -249,8 +249,7 @@ uint64_t hanraquin_frame(const uint8_t *data, size_t data_len, uint8_t *out, siz
  *     1, 2, 3          timer             256 + 0x15                        0
  *
  * A stored byte is put at the place of the count, which is then one more. There is no room when the count is buffer_len or
- * 1024. In phases 1 and 2 each byte goes into the check by exclusive or,
- * unless the event ends at rest.
+ * 1024. In phases 1 and 2 each byte goes into the check by exclusive or, unless the event ends at rest.
  *
  * A loop; byte_or_timer waits for a byte, and no longer than its argument says, which is 0 for "without end". How long a
  * timer runs is for the caller to say:
