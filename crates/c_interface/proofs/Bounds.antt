@@ -27,11 +27,11 @@ use Rattle.mop_station.proofs.Rooms.{Fits, step-fits}
 use Rattle.mop_centre.specs.Request.{goodRoute, maxRun, requestTelegram, requesting}
 use Rattle.mop_centre.proofs.Routes.{route-parts}
 use Rattle.mop_centre.proofs.Replies.{receipt-read}
-use Rattle.centre_laws.specs.ReadBack.{maxRequest}
-use Rattle.centre_laws.proofs.Requests.{request-most}
-use Rattle.journey.specs.Journey.{callOutput}
-use Rattle.journey.specs.Bounded.{calling}
-use Rattle.journey.proofs.Bounded.{same-calling}
+use Rattle.net_exchange.specs.ReadBack.{maxRequest}
+use Rattle.net_exchange.proofs.Requests.{request-most}
+use Rattle.net_journey.specs.Journey.{callOutput}
+use Rattle.net_journey.specs.Bounded.{calling}
+use Rattle.net_journey.proofs.Bounded.{same-calling}
 use Rattle.c_interface.specs.Link.{SmallResponse}
 use Rattle.c_interface.specs.Net.{SmallRun}
 use Rattle.c_interface.specs.Bounds.{maxFrame, ValueBounds}

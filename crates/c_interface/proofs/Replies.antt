@@ -15,7 +15,7 @@ use Rattle.mop_header.specs.Reading.{maxTelegram}
 use Rattle.mop_centre.specs.Request.{maxRoute}
 use Rattle.mop_centre.specs.Reply.{Receipt, accepted, notMine, refuses, Answer, unread, replyReading}
 use Rattle.mop_centre.proofs.Replies.{not-mine-read, refused-read, receipt-told, stretch-room, stretch-bytes}
-use Rattle.centre_laws.proofs.Replies.{accepted-is-reply}
+use Rattle.net_exchange.proofs.Replies.{accepted-is-reply}
 use Rattle.c_interface.specs.Answer.{refused}
 use Rattle.c_interface.specs.Answer as answers
 use Rattle.c_interface.specs.Centre.{ofReceipt, hasReplyPlaces, replyTold, replyToldBy, readReplyCall}

@@ -14,17 +14,17 @@ use Rattle.mop_header.specs.Reading.{Reading, sound, faulty, maxTelegram, tooLo
 use Rattle.mop_header.specs.declared.Reader.the-variants.{Station}
 use Rattle.mop_header.proofs.ReadBack.{is-written}
 use Rattle.mop_station.specs.Station.{Handled, refuses}
-use Rattle.journey.specs.Journey.{Ending, refusedWith}
-use Rattle.journey.specs.Terms.{lastTelegram, isFine, allFine, ordinary, allOrdinary}
-use Rattle.journey.specs.Bounded.{mostTransmissions}
-use Rattle.journey.proofs.Whole.{at-most-62}
-use Rattle.net.specs.Tables.{netOf, setUp}
-use Rattle.net.specs.DryRun.{Outcome, played, outright, outcomeOf, DryRun, runOutput, ofCourse, runOf, dryRun, RanTheJourney}
-use Rattle.net.specs.declared.JourneyEnd.{JourneyEnd}
-use Rattle.net.specs.declared.DryRunAnswer.{DryRunAnswer}
-use Rattle.net.specs.declared.DryRunAnswer.the-variants.{Played}
-use Rattle.net.proofs.Tables.{good-net}
-use Rattle.net.proofs.Journeys.{runs-the-journey}
+use Rattle.net_journey.specs.Journey.{Ending, refusedWith}
+use Rattle.net_journey.specs.Terms.{lastTelegram, isFine, allFine, ordinary, allOrdinary}
+use Rattle.net_journey.specs.Bounded.{mostTransmissions}
+use Rattle.net_journey.proofs.Whole.{at-most-62}
+use Rattle.net_dry_run.specs.Tables.{netOf, setUp}
+use Rattle.net_dry_run.specs.DryRun.{Outcome, played, outright, outcomeOf, DryRun, runOutput, ofCourse, runOf, dryRun, RanTheJourney}
+use Rattle.net_dry_run.specs.declared.JourneyEnd.{JourneyEnd}
+use Rattle.net_dry_run.specs.declared.DryRunAnswer.{DryRunAnswer}
+use Rattle.net_dry_run.specs.declared.DryRunAnswer.the-variants.{Played}
+use Rattle.net_dry_run.proofs.Tables.{good-net}
+use Rattle.net_dry_run.proofs.Journeys.{runs-the-journey}
 use Rattle.c_interface.specs.Answer.{refused}
 use Rattle.c_interface.specs.Net.{SmallRun, ran, ranBy, dryRunCall}
 

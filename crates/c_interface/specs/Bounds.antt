@@ -16,10 +16,10 @@ use Rattle.mop_header.specs.Reading.{maxTelegram}
 use Rattle.mop_station.specs.Station.{sent, handling}
 use Rattle.mop_centre.specs.Request.{requesting}
 use Rattle.mop_centre.specs.Reply.{accepted, replyReceipt, replyReading}
-use Rattle.centre_laws.specs.ReadBack.{maxRequest}
-use Rattle.journey.specs.Journey.{Ending, refusedWith}
-use Rattle.journey.specs.Bounded.{mostTransmissions}
-use Rattle.net.specs.DryRun.{played, runOutput, dryRun}
+use Rattle.net_exchange.specs.ReadBack.{maxRequest}
+use Rattle.net_journey.specs.Journey.{Ending, refusedWith}
+use Rattle.net_journey.specs.Bounded.{mostTransmissions}
+use Rattle.net_dry_run.specs.DryRun.{played, runOutput, dryRun}
 
 -- the length of the longest frame: all data is doubled, and three bytes follow
 abbrev pub maxFrame : ℕ

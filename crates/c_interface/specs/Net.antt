@@ -5,9 +5,9 @@ use mathlib.Core.List.{List, [], _∷_}
 use lib.Dec.{eqb}
 use lib.ListN.{length}
 use Rattle.base.specs.Choice.{pick}
-use Rattle.journey.specs.Journey.{Ending, atZero, atNobody, refusedWith}
-use Rattle.journey.specs.Bounded.{mostTransmissions}
-use Rattle.net.specs.DryRun.{Outcome, played, outright, DryRun, runOutput, dryRun}
+use Rattle.net_journey.specs.Journey.{Ending, atZero, atNobody, refusedWith}
+use Rattle.net_journey.specs.Bounded.{mostTransmissions}
+use Rattle.net_dry_run.specs.DryRun.{Outcome, played, outright, DryRun, runOutput, dryRun}
 use Rattle.c_interface.specs.Answer.{done, refused}
 
 -- an ending as a number: 0 at an entry 00, 1 at an address that nobody has, else the number of the station's refusal

@@ -9,8 +9,8 @@ use link_receive::Phase;
 use mop_centre::MAX_ROUTE;
 use mop_centre::ReplyVerdict;
 use mop_station::StationAnswer;
-use net::DryRunAnswer;
-use net::JourneyEnd;
+use net_dry_run::DryRunAnswer;
+use net_dry_run::JourneyEnd;
 use refusal::Refusal;
 use refusal::WriteAnswer;
 ghost use mathlib.Core.Path.{_≡_};
@@ -22,8 +22,8 @@ ghost use Rattle.refusal.specs.Writing.{givenOf};
 ghost use Rattle.link_receive.specs.Receive.{responseOf, receiveOf};
 ghost use Rattle.mop_station.specs.Station.{handledOf};
 ghost use Rattle.mop_centre.specs.Reply.{replyReading};
-ghost use Rattle.net.specs.Hop.{endingOf};
-ghost use Rattle.net.specs.DryRun.{outcomeOf};
+ghost use Rattle.net_dry_run.specs.Hop.{endingOf};
+ghost use Rattle.net_dry_run.specs.DryRun.{outcomeOf};
 ghost use Rattle.c_interface.specs.Answer.{refused, ofWriting};
 ghost use Rattle.c_interface.specs.Link.{written, frameCall, dleAt, phaseNumber, phaseAt, stateWords, stateAt, isState, eventAt, ofResponse, SmallResponse, received, receivedBy, receiveCall};
 ghost use Rattle.c_interface.specs.Station.{ofHandled, atStation, stationCall};
@@ -297,7 +297,7 @@ fn of_outcome(answer: DryRunAnswer, result: &mut [u32]) -> u64
     }
 }
 
-// The dry run of a telegram: net::dry_run. The value is the count of transmissions; result is the count, the ending (0 at an
+// The dry run of a telegram: net_dry_run::dry_run. The value is the count of transmissions; result is the count, the ending (0 at an
 // entry 00, 1 at an address that nobody has, else the number of the station's refusal), and the length of the last telegram.
 // Refused with 1, and all as it was: a result of another length than 3. Every refusal leaves the result as it was.
 #[no_mangle]
@@ -313,6 +313,6 @@ pub extern "C" fn hanraquin_dry_run(
     if result.len() != 3 {
         return refused(Refusal::Setup);
     }
-    let answer = net::dry_run(telegram, addresses, &mut *tables, &mut *out);
+    let answer = net_dry_run::dry_run(telegram, addresses, &mut *tables, &mut *out);
     of_outcome(answer, &mut *result)
 }

@@ -5,7 +5,7 @@ use mathlib.Core.List.{List, _++_}
 use Prim.Native.Nat.{ℕ}
 use lib.ListN.{replicate}
 use lib.Seq.{sets}
-use Rattle.registers.specs.Rows.{factory}
+use Rattle.mop_registers.specs.Rows.{factory}
 
 pub three-tables : {values one two three : List ℕ} → values ≡ factory → one ≡ sets (replicate 54 0) 0 values → two ≡ sets one 18 values →
     three ≡ sets two 36 values → three ≡ factory ++ (factory ++ factory)

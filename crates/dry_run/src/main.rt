@@ -2,14 +2,14 @@
 // 12, 13 and 55; its journey is told on standard output.
 use libc::STDIN_FILENO;
 use libc::STDOUT_FILENO;
+use mop_registers::TABLE_LENGTH;
 use refusal::WriteAnswer;
-use registers::TABLE_LENGTH;
 ghost use mathlib.Core.Path.{_≡_};
 ghost use mathlib.Core.List.{_++_};
 ghost use Prim.Native.Nat.{_+_, _≤_};
 ghost use lib.ListN.{length};
 ghost use lib.Seq.{sets};
-ghost use Rattle.registers.specs.Rows.{factory};
+ghost use Rattle.mop_registers.specs.Rows.{factory};
 
 // The places of the tables of three stations.
 const PLACES: usize = 3 * TABLE_LENGTH;
@@ -30,7 +30,7 @@ fn put_values(values: &[u16], tables: &mut [u16], at: usize)
 fn factory_tables() -> [u16; PLACES]
     ensures { λ r. ⌜ r ≡ factory ++ (factory ++ factory) ⌝ }
 {
-    let values = registers::factory();
+    let values = mop_registers::factory();
     let mut tables = [0u16; PLACES];
     put_values(&values, &mut tables, 0);
     put_values(&values, &mut tables, TABLE_LENGTH);
@@ -45,7 +45,7 @@ fn main() {
     let addresses = [0x12u8, 0x13, 0x55];
     let mut tables = factory_tables();
     let mut text = [0u8; 6500];
-    let answer = report::report(&input[..n], &addresses, &mut tables, &mut text);
+    let answer = net_report::report(&input[..n], &addresses, &mut tables, &mut text);
     if let WriteAnswer::Written(length) = answer {
         if length <= text.len() {
             io::write_all(STDOUT_FILENO, &text[0..length]);

@@ -10,9 +10,9 @@ use lib.Seq.{sets, length-sets}
 use Rattle.base.specs.Places.{placed}
 use Rattle.base.proofs.Places.{take-placed}
 use Rattle.base.proofs.Words.{length-words}
-use Rattle.registers.specs.Rows.{placeOf, tableLength}
-use Rattle.registers.specs.Runs.{runExists, reads}
-use Rattle.registers.proofs.Runs.{run-room, run-bound, length-reads, reads-run, length-writes, writes-run}
+use Rattle.mop_registers.specs.Rows.{placeOf, tableLength}
+use Rattle.mop_registers.specs.Runs.{runExists, reads}
+use Rattle.mop_registers.proofs.Runs.{run-room, run-bound, length-reads, reads-run, length-writes, writes-run}
 use Rattle.mop_header.specs.Header.{Head, headerLength, telegramOf, asReply}
 use Rattle.mop_header.proofs.Lengths.{length-sent-back, length-as-reply}
 use Rattle.mop_body.specs.Body.{readStart, readCount, writeStart, writeCount, valuesOf, replyWith}

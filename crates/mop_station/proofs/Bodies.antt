@@ -10,7 +10,7 @@ use lib.Dec.{eqb, leb}
 use lib.ListN.{length, List·getD-eq-default}
 use Rattle.base.specs.Choice.{pick}
 use Rattle.base.proofs.Choice.{pick-either}
-use Rattle.registers.specs.Runs.{runExists, runMayWrite, runTakes}
+use Rattle.mop_registers.specs.Runs.{runExists, runMayWrite, runTakes}
 use Rattle.mop_body.specs.Body.{readStart, readCount, writeStart, writeCount, valuesOf}
 use Rattle.mop_station.specs.Body.{Acceptance, accepts, rejects, judgedRuns, judgedBody}
 

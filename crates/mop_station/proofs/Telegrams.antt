@@ -7,7 +7,7 @@ use Prim.Native.Nat.{ℕ}
 use borrow.Author.Tests.{eq-eqb, eqb-true}
 use lib.Dec.{eqb}
 use lib.ListN.{length}
-use Rattle.registers.specs.Rows.{tableLength}
+use Rattle.mop_registers.specs.Rows.{tableLength}
 use Rattle.mop_block.specs.Block.{isAddress}
 use Rattle.mop_header.specs.Header.{Head, bodyOf}
 use Rattle.mop_header.specs.Reading.{Reading, sound, faulty, reading}

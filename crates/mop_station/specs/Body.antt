@@ -6,7 +6,7 @@ use mathlib.Core.List.{List}
 use lib.Dec.{eqb}
 use lib.ListN.{length}
 use Rattle.base.specs.Choice.{pick}
-use Rattle.registers.specs.Runs.{runExists, runMayWrite, runTakes, writes, reads}
+use Rattle.mop_registers.specs.Runs.{runExists, runMayWrite, runTakes, writes, reads}
 use Rattle.refusal.specs.Numbers.{numberOf}
 use Rattle.mop_body.specs.Body.{readStart, readCount, writeStart, writeCount, valuesOf, replyWith}
 use Rattle.mop_station.specs.declared.BodyVerdict.{BodyVerdict}

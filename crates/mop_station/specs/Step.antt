@@ -9,8 +9,8 @@ use lib.ListN.{length, take}
 use Rattle.base.specs.Choice.{pick}
 use Rattle.base.specs.Places.{placed}
 use Rattle.refusal.specs.Numbers.{numberOf}
-use Rattle.registers.specs.Rows.{tableLength}
-use Rattle.registers.specs.Runs.{longestRun}
+use Rattle.mop_registers.specs.Rows.{tableLength}
+use Rattle.mop_registers.specs.Runs.{longestRun}
 use Rattle.mop_block.specs.Block.{isAddress, first, next}
 use Rattle.mop_header.specs.Header.{Head, headOf, telegramOf, rolledLeft, asReply, sentBack}
 use Rattle.mop_header.specs.declared.Function.{Function}

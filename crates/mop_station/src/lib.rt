@@ -3,8 +3,8 @@ use mop_header::Function;
 use mop_header::Header;
 use mop_header::HeaderRead;
 use mop_header::Reader;
+use mop_registers::TABLE_LENGTH;
 use refusal::Refusal;
-use registers::TABLE_LENGTH;
 ghost use mathlib.Core.Path.{_≡_};
 ghost use mathlib.Core.List.{List};
 ghost use Prim.Native.Nat.{ℕ, _+_, _*_, _≤_};
@@ -13,7 +13,7 @@ ghost use lib.ListN.{length, take, drop};
 ghost use lib.Seq.{sets};
 ghost use Rattle.base.specs.Words.{wordsOf};
 ghost use Rattle.base.specs.Places.{placed};
-ghost use Rattle.registers.specs.Rows.{placeOf, tableLength};
+ghost use Rattle.mop_registers.specs.Rows.{placeOf, tableLength};
 ghost use Rattle.mop_block.specs.Block.{next};
 ghost use Rattle.mop_header.specs.Header.{headOf, headerLength, telegramOf, blockStart, sentBack};
 ghost use Rattle.mop_header.specs.Reading.{sound};
@@ -105,16 +105,16 @@ enum BodyVerdict {
 fn judge_runs(rstart: u16, rcount: u8, wstart: u16, wcount: u8, values: &[u8]) -> BodyVerdict
     ensures { λ r. ⌜ acceptanceOf r ≡ judgedRuns rstart rcount wstart wcount (wordsOf (now (values .entry))) ⌝ }
 {
-    if !registers::run_exists(rstart, rcount) {
+    if !mop_registers::run_exists(rstart, rcount) {
         return BodyVerdict::Rejected(Refusal::NoRegister);
     }
-    if !registers::run_exists(wstart, wcount) {
+    if !mop_registers::run_exists(wstart, wcount) {
         return BodyVerdict::Rejected(Refusal::NoRegister);
     }
-    if !registers::run_may_write(wstart, wcount) {
+    if !mop_registers::run_may_write(wstart, wcount) {
         return BodyVerdict::Rejected(Refusal::NoWrite);
     }
-    if !registers::run_takes(wstart, values) {
+    if !mop_registers::run_takes(wstart, values) {
         return BodyVerdict::Rejected(Refusal::ValueRange);
     }
     BodyVerdict::Accepted
@@ -144,7 +144,7 @@ fn write_registers(body: &[u8], registers: &mut [u16])
 {
     let n = body.len();
     let start = words::word_of(body[3], body[4]);
-    let at = registers::place_of(start as usize);
+    let at = mop_registers::place_of(start as usize);
     words::store_words(&body[6..n], &mut *registers, at);
 }
 
@@ -157,7 +157,7 @@ fn put_reply(body: &[u8], registers: &[u16], reply: &mut [u8])
 {
     let start = words::word_of(body[0], body[1]);
     let count = body[2];
-    let at = registers::place_of(start as usize);
+    let at = mop_registers::place_of(start as usize);
     let end = at + count as usize;
     places::put(&body[0..3], &mut *reply, 0);
     words::put_words(&registers[at..end], &mut *reply, 3);

@@ -4,7 +4,7 @@ use crate::limits::BEFORE;
 use crate::nets;
 use crate::show;
 use crate::station_limits;
-use net::DryRunAnswer;
+use net_dry_run::DryRunAnswer;
 
 // Sixty-five addresses in no order, no two equal; the 64th is 55.
 pub(crate) const NAMES: [u8; 65] =

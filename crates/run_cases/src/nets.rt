@@ -4,7 +4,7 @@ use crate::show;
 use crate::station;
 use crate::station::MOST;
 use libc::STDIN_FILENO;
-use net::DryRunAnswer;
+use net_dry_run::DryRunAnswer;
 use refusal::Refusal;
 
 // The most addresses, and the most values of the tables, in a listed dry run.
@@ -28,7 +28,7 @@ pub(crate) fn call(
     if out.len() < places {
         return DryRunAnswer::Refused(Refusal::Setup);
     }
-    net::dry_run(
+    net_dry_run::dry_run(
         telegram,
         addresses,
         &mut tables[0..lent],

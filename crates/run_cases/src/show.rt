@@ -8,8 +8,8 @@ use link_receive::LinkStep;
 use link_receive::Phase;
 use mop_centre::ReplyVerdict;
 use mop_station::StationAnswer;
-use net::DryRunAnswer;
-use net::JourneyEnd;
+use net_dry_run::DryRunAnswer;
+use net_dry_run::JourneyEnd;
 use refusal::Refusal;
 use refusal::WriteAnswer;
 

@@ -3,8 +3,8 @@ use crate::limits;
 use crate::limits::BEFORE;
 use crate::show;
 use libc::STDIN_FILENO;
+use mop_registers::TABLE_LENGTH;
 use mop_station::StationAnswer;
-use registers::TABLE_LENGTH;
 
 // The places of a table.
 pub(crate) const PLACES: usize = 20;
@@ -14,7 +14,7 @@ pub(crate) const MOST: usize = 1100;
 
 // A table as it leaves the factory, with two places more.
 pub(crate) fn factory_table() -> [u16; PLACES] {
-    let values = registers::factory();
+    let values = mop_registers::factory();
     let mut table = [0xEEEEu16; PLACES];
     let mut i: usize = 0;
     while i < TABLE_LENGTH {

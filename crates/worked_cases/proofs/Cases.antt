@@ -14,8 +14,8 @@ use Rattle.base.specs.Words.{wordsOf, bytesOf}
 use Rattle.link_frame.specs.Frame.{sent, doubled, xorOver, checked, checkByte, frameOf, framing}
 use Rattle.link_receive.specs.Receive.{against, afterStore, byteOf, dataOf, eventOf, insideOf, noRoom, receiveOf, restOf, storeOf, waitingOf}
 use Rattle.link_laws.specs.Feeding.{feed}
-use Rattle.registers.specs.Rows.{tableLength, placeOf, exists, mayWrite, takes, factory}
-use Rattle.registers.specs.Runs.{runExists, runMayWrite, runTakes, writes, reads}
+use Rattle.mop_registers.specs.Rows.{tableLength, placeOf, exists, mayWrite, takes, factory}
+use Rattle.mop_registers.specs.Runs.{runExists, runMayWrite, runTakes, writes, reads}
 use Rattle.mop_block.specs.Block.{isAddress, has, distinctAddresses, stations, zeroEnds, around, goodBlock, first, next, rolled, rollLeft, rollRight}
 use Rattle.mop_header.specs.Header.{Head, addressBytes, headerBytes, headerLength, telegramOf, bodyOf, mayBegin, isMark, markByte, markIs, withMark, markAgrees, remarked, rolledLeft, rolledRight, asReply, sentBack}
 use Rattle.mop_header.specs.Reading.{sound, allowed, functionAt, goodFor, judged, standardReading, extendedReading, reading}
@@ -27,22 +27,22 @@ use Rattle.mop_station.specs.Step.{isStation, ifRoom, relayed, relaying, replie
 use Rattle.mop_station.specs.Station.{sendingBy, hearing, handling}
 use Rattle.mop_centre.specs.Request.{goodRoute, requestHead, requestTelegram, requesting}
 use Rattle.mop_centre.specs.Reply.{judgedReply, receiving, routePlaces, readOut, unread, opened, openedBy, replyReading}
-use Rattle.journey.specs.Net.{rightTables, goodNet, isThere, allThere, upToMissing, tableAt, withTable}
-use Rattle.journey.specs.Journey.{Ending, atNobody, refusedWith, Course, named, addressee, handler}
-use Rattle.journey.specs.Bounded.{calling, playing, mostTransmissions}
-use Rattle.journey.proofs.Whole.{every-journey, plays-the-journey}
-use Rattle.centre_laws.specs.Exchange.{Exchange}
-use Rattle.centre_laws.proofs.Exchange.{every-exchange}
-use Rattle.net.specs.Tables.{netOf, tablesOf, tablesFit, setUp}
-use Rattle.journey.specs.Terms.{lastTelegram}
-use Rattle.net.specs.DryRun.{runOutput, played, leaves, padded, ofCourse, dryRun}
-use Rattle.report.specs.Text.{hexDigit, hexBytes, decimal, headLine, lineOf, line, lines, sentText, endingText, closing, courseText, refusedText, outrightText}
-use Rattle.report.specs.Report.{tellsCourse, reportOutput, reporting, toldOf}
-use Rattle.report.specs.Report as report
-use Rattle.report.proofs.Journeys.{tells-the-journey}
-use Rattle.net.proofs.Tables.{good-net}
-use Rattle.net.proofs.Outputs.{length-padded}
-use Rattle.net.proofs.Journeys.{runs-the-journey}
+use Rattle.net_journey.specs.Net.{rightTables, goodNet, isThere, allThere, upToMissing, tableAt, withTable}
+use Rattle.net_journey.specs.Journey.{Ending, atNobody, refusedWith, Course, named, addressee, handler}
+use Rattle.net_journey.specs.Bounded.{calling, playing, mostTransmissions}
+use Rattle.net_journey.proofs.Whole.{every-journey, plays-the-journey}
+use Rattle.net_exchange.specs.Exchange.{Exchange}
+use Rattle.net_exchange.proofs.Exchange.{every-exchange}
+use Rattle.net_dry_run.specs.Tables.{netOf, tablesOf, tablesFit, setUp}
+use Rattle.net_journey.specs.Terms.{lastTelegram}
+use Rattle.net_dry_run.specs.DryRun.{runOutput, played, leaves, padded, ofCourse, dryRun}
+use Rattle.net_report.specs.Text.{hexDigit, hexBytes, decimal, headLine, lineOf, line, lines, sentText, endingText, closing, courseText, refusedText, outrightText}
+use Rattle.net_report.specs.Report.{tellsCourse, reportOutput, reporting, toldOf}
+use Rattle.net_report.specs.Report as report
+use Rattle.net_report.proofs.Journeys.{tells-the-journey}
+use Rattle.net_dry_run.proofs.Tables.{good-net}
+use Rattle.net_dry_run.proofs.Outputs.{length-padded}
+use Rattle.net_dry_run.proofs.Journeys.{runs-the-journey}
 use Rattle.worked_cases.specs.Cases.{factoryTables, factoryNet, Travels, Tells, Promised, answered, unanswered, Asked, _also_, none, WorkedCases}
 
 -- all of an output that a dry run fills

@@ -10,7 +10,7 @@ use Rattle.link_frame.specs.Frame.{framing}
 use Rattle.link_receive.specs.Receive.{Response, nothing, sends, at}
 use Rattle.link_receive.specs.declared.Phase.the-variants.{Rest}
 use Rattle.link_laws.specs.Feeding.{feed}
-use Rattle.registers.specs.Rows.{factory}
+use Rattle.mop_registers.specs.Rows.{factory}
 use Rattle.mop_header.specs.Header.{Head, bodyOf}
 use Rattle.mop_header.specs.Reading.{sound, reading}
 use Rattle.mop_header.specs.declared.Reader.the-variants.{Station}
@@ -19,16 +19,16 @@ use Rattle.mop_body.specs.Body.{requestBody}
 use Rattle.mop_centre.specs.Request.{requesting}
 use Rattle.mop_centre.specs.Reply.{Receipt, accepted, told, anywhere, replyReading}
 use Rattle.mop_centre.specs.Reply as centre
-use Rattle.journey.specs.Net.{Net}
-use Rattle.journey.specs.Journey.{Ending, atZero, atNobody, refusedWith, Course, Journey}
-use Rattle.journey.specs.Terms.{lastTelegram}
-use Rattle.journey.specs.Demand3.{Accomplished, TheJourney}
-use Rattle.centre_laws.specs.Exchange.{Answered, NoAnswer, Exchange}
-use Rattle.net.specs.Tables.{netOf, tablesOf}
-use Rattle.net.specs.DryRun.{played, leaves, padded, dryRun}
-use Rattle.report.specs.Text.{codes}
-use Rattle.report.specs.Report.{reportOutput, reporting}
-use Rattle.report.specs.Report as report
+use Rattle.net_journey.specs.Net.{Net}
+use Rattle.net_journey.specs.Journey.{Ending, atZero, atNobody, refusedWith, Course, Journey}
+use Rattle.net_journey.specs.Terms.{lastTelegram}
+use Rattle.net_journey.specs.Demand3.{Accomplished, TheJourney}
+use Rattle.net_exchange.specs.Exchange.{Answered, NoAnswer, Exchange}
+use Rattle.net_dry_run.specs.Tables.{netOf, tablesOf}
+use Rattle.net_dry_run.specs.DryRun.{played, leaves, padded, dryRun}
+use Rattle.net_report.specs.Text.{codes}
+use Rattle.net_report.specs.Report.{reportOutput, reporting}
+use Rattle.net_report.specs.Report as report
 
 -- a net of stations with factory values, and its tables end to end
 abbrev pub factoryTables : List ℕ → List ℕ

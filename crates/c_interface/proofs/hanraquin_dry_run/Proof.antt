@@ -1,7 +1,7 @@
 -- `hanraquin_dry_run`: the test of the result, and then the dry run.
 -- Assumes nothing.
 use mathlib.Core.Path.{sym, _∙_, ap, subst}
-use Rattle.net.specs.DryRun.{DryRun}
+use Rattle.net_dry_run.specs.DryRun.{DryRun}
 use Rattle.c_interface.specs.Net.{SmallRun, ranBy}
 use Rattle.c_interface.proofs.Runs.{small-run, bad-result, good-result}
 use borrow.Author.Needs.{needs}

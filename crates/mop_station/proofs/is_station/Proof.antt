@@ -1,6 +1,6 @@
 -- `is_station`: the own address, then the length of the table.
 -- Assumes nothing.
-use Rattle.registers.proofs.Places.{table-length}
+use Rattle.mop_registers.proofs.Places.{table-length}
 use Rattle.mop_station.specs.Step.{isStation}
 use borrow.Author.Tests.{not-true, not-false}
 use mathlib.Core.Path.{sym, _∙_}

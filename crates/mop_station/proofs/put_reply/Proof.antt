@@ -1,7 +1,7 @@
 -- `put_reply`: three bytes as they came, and the bytes of the values behind them.
 -- Assumes nothing.
 use Rattle.mop_station.proofs.Stores.{reply-stored}
-use Rattle.registers.specs.Rows.{placeOf}
+use Rattle.mop_registers.specs.Rows.{placeOf}
 use lib.Seq.{length-take-le}
 use lib.ListN.{length, getD, take, drop, length-drop}
 use native.Mathlib.Omega.{arith}

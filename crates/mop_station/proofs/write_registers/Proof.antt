@@ -1,6 +1,6 @@
 -- `write_registers`: the values are stored from the place of the write start on.
 -- Assumes nothing.
-use Rattle.registers.specs.Rows.{placeOf}
+use Rattle.mop_registers.specs.Rows.{placeOf}
 use Rattle.base.proofs.Places.{take-rest}
 use mathlib.Core.Path.{_∙_, ap}
 use borrow.Author.Needs.{needs}

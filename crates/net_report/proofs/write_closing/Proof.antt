@@ -1,0 +1,63 @@
+-- `write_closing`: the word, the count, the ending and the end of the line, one behind the other.
+-- Assumes nothing.
+use mathlib.Core.Path.{ap, _∙_}
+use mathlib.Core.List.{List, [], _∷_, _++_}
+use Prim.Native.Nat.{ℕ}
+use native.Mathlib.Omega.{arith}
+use lib.ListN.{length-set}
+use Rattle.net_dry_run.specs.Hop.{endingOf}
+use Rattle.net_report.specs.Text.{space, lineFeed, decimal, sentText, endingText}
+use Rattle.net_report.specs.Writing.{writing}
+use Rattle.net_report.proofs.Writing.{behind, worded, stored}
+use Rattle.net_report.proofs.Lines.{closing-parts}
+use borrow.Author.Needs.{needs}
+use Rattle.net_report.proofs.write_closing.Statement.{statement}
+use Rattle.net_report.proofs.write_closing.Tie as tie
+
+slice-aggregate-put : tie.Need-slice-aggregate-put
+slice-aggregate-put c = search needs
+
+put-requires : tie.Need-put-requires
+put-requires c κs = search needs
+
+add-write-decimal : tie.Need-add-write-decimal
+add-write-decimal c = search needs
+
+write-decimal-requires : tie.Need-write-decimal-requires
+write-decimal-requires c κs = search needs
+
+write-ending-requires : tie.Need-write-ending-requires
+write-ending-requires c κs = search needs
+
+slice-write-out : tie.Need-slice-write-out
+slice-write-out c = search needs
+
+add-result : tie.Need-add-result
+add-result c = search needs
+
+same-length : tie.Need-same-length
+same-length c = simp length-set (c .before .before .write-ending .kept .1 .0 ∙ c .before .before .before .before .before .before .write-decimal .kept .1 .0 ∙ c .before .before .before .before .before .before .before .before .before .before .put .kept .1 .0)
+
+returns : tie.Need-returns
+unfolding sentText
+returns c =
+    let a = c .before .before .before .before .before .before .before .before .before .before .before .before .before .before .args in
+    let out = a .out .now in
+    let ending = endingText (endingOf (a .end)) in
+    let sent = worded (a .at) (0x73 ∷ 0x65 ∷ 0x6E ∷ 0x74 ∷ space ∷ []) (decimal (a .count)) out (c .before .before .before .before .before .before .before .before .before .before .put .ensures) (c .before .before .before .before .before .before .write-decimal .ensures .0) in
+    let both = behind (a .at) (sentText (a .count)) ending out sent (c .before .before .write-ending .ensures .0) in
+    (stored (a .at) (sentText (a .count) ++ ending) lineFeed out both ∙ ap (λ (text : List ℕ). writing (a .at) text out) (closing-parts (a .count) (endingOf (a .end))), omega arith)
+
+pub write-closing-spec : {M : Type 1} → statement M
+write-closing-spec =
+    tie.close
+    (tie.spec
+    slice-aggregate-put
+    put-requires
+    add-write-decimal
+    write-decimal-requires
+    write-ending-requires
+    slice-write-out
+    add-result
+    same-length
+    returns)

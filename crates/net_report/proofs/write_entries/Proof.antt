@@ -1,0 +1,82 @@
+-- `write_entries`: what is written, and what is left from i on, make the whole. What is left falls.
+-- Assumes nothing.
+use mathlib.Core.Path.{refl, _∙_, _≡_}
+use lib.ListN.{length, drop}
+use Prim.Native.Nat.{_+_, _*_, _≤_, _-_}
+use Rattle.net_report.specs.Writing.{writing}
+use mathlib.Core.List.{[], _∷_}
+use Rattle.net_report.proofs.Writing.{goes-on, all-written}
+use Rattle.net_report.proofs.Lines.{hex-next, hex-end}
+use native.Mathlib.Omega.{arith}
+use borrow.Author.Needs.{needs}
+use Rattle.mop_header.specs.Header.{headOf}
+use Rattle.net_report.specs.Text.{hexBytes}
+use Rattle.net_report.proofs.write_entries.Statement.{statement}
+use Rattle.net_report.proofs.write_entries.Tie as tie
+
+abbrev Inv-loop : tie.InvT-loop
+Inv-loop header block out₀ at n place₀ i₀ out place i =
+    (n ≡ length (headOf header block .block)) × (i ≤ n) × (place ≤ at + 3 * i) × (length out ≡ length out₀)
+    × (writing place (hexBytes (drop i (headOf header block .block))) out ≡ writing at (hexBytes (headOf header block .block)) out₀)
+
+abbrev μ-loop : tie.MeasureT-loop
+μ-loop header block out₀ at n place₀ i₀ out place i = n - i
+
+entry-count-requires : tie.Need-entry-count-requires Inv-loop μ-loop
+entry-count-requires c κs = search needs
+
+loop-holds : tie.Need-loop-holds Inv-loop μ-loop
+loop-holds c = (c .entry-count .ensures _, omega arith, omega arith, refl, refl)
+
+entry-requires : tie.Need-entry-requires Inv-loop μ-loop
+entry-requires c κs = search needs
+
+write-byte-requires : tie.Need-write-byte-requires Inv-loop μ-loop
+write-byte-requires c κs = search needs
+
+add-i : tie.Need-add-i Inv-loop μ-loop
+add-i c = search needs
+
+loop-less : tie.Need-loop-less Inv-loop μ-loop
+loop-less c = search needs
+
+loop-again : tie.Need-loop-again Inv-loop μ-loop
+loop-again c =
+    let v = c .before .before .before .before .before .before .loop in
+    let a = c .before .before .before .before .before .before .before .before .before .before .args in
+    let block = headOf (a .header) (a .block .now) .block in
+    let b = c .before .before .before .before .entry in
+    let p = c .before .before .write-byte in
+    let next = hex-next block (v .i) (b .result) (b .ensures) (omega arith) in (
+      v .inv .0,
+      omega arith,
+      omega (arith, p .ensures .1),
+      p .kept .1 .0 ∙ v .inv .3,
+      goes-on (v .place) (hexBytes (b .result ∷ [])) (hexBytes (drop (v .i + 1) block)) (hexBytes (drop (v .i) block)) (v .out) (p .ensures .0) next (v .inv .4),
+    )
+
+same-length : tie.Need-same-length Inv-loop μ-loop
+same-length c = c .before .loop .inv .3
+
+returns : tie.Need-returns Inv-loop μ-loop
+returns c =
+    let v = c .before .loop in
+    let a = c .before .before .before .before .before .args in
+    let block = headOf (a .header) (a .block .now) .block in
+    (all-written (v .place) (hexBytes (drop (v .i) block)) (v .out) (hex-end block (v .i) (omega arith)) (v .inv .4), omega arith)
+
+pub write-entries-spec : {M : Type 1} → statement M
+write-entries-spec =
+    tie.close
+    (tie.spec
+    Inv-loop
+    μ-loop
+    entry-count-requires
+    loop-holds
+    entry-requires
+    write-byte-requires
+    add-i
+    loop-less
+    loop-again
+    same-length
+    returns)
