@@ -2,3 +2,4 @@ pub mod Choice
 pub mod Places
 pub mod Filling
 pub mod Words
+pub mod Private

@@ -9,13 +9,14 @@ use native.Mathlib.Numerals.{add-one}
 use native.Mathlib.Omega.{arith}
 use borrow.Author.Tests.{eq-eqb, ne-eqb, eqb-true, eqb-false}
 use lib.Dec.{eqb}
-use lib.ListN.{length, take, drop, getD, replicate, length-append, take-append-drop, length-drop, drop-of-length-le}
-use lib.Seq.{drop-cons, drop-drop, take-all}
+use lib.ListN.{length, take, drop, getD, replicate, length-append, take-append-drop, drop-of-length-le}
+use lib.Seq.{drop-cons, drop-drop}
 use Rattle.base.specs.Choice.{pick}
+use Rattle.base.specs.Private.Tests.{every}
+use Rattle.base.proofs.Writing.{Splits}
 use Rattle.link_frame.specs.ControlBytes.{DLE}
 use Rattle.link_frame.specs.Frame.{sent, doubled}
-use Rattle.link_frame.specs.Writing.{every, isDle, isOther}
-use Rattle.link_frame.proofs.Steps.{Splits}
+use Rattle.link_frame.specs.Private.Tests.{isDle, isOther}
 
 -- a DLE is sent twice, any other byte once
 module _ (b : ℕ) where
@@ -57,7 +58,7 @@ module _ (d : List ℕ) (i : ℕ) (h : i < length d) where
   pub next-byte : Splits (drop i d) (getD d i 0 ∷ []) (drop (i + 1) d)
   next-byte = record { is = rw (drop-cons d i 0, add-one) }
 
--- the part from place i up to place e, and the last one
+-- the part from place i up to place e
 pub next-part : (d : List ℕ) (i e : ℕ) → i ≤ e → Splits (doubled (drop i d)) (doubled (take (e - i) (drop i d))) (doubled (drop e d))
 next-part d i e h =
     let k : i + (e - i) ≡ e = omega arith in
@@ -68,9 +69,6 @@ next-part d i e h =
           ∙ rw (drop-drop (e - i) i d, k);
     }
 
-pub last-part : (d : List ℕ) (i : ℕ) → take (length d - i) (drop i d) ≡ drop i d
-last-part d i = take-all (length d - i) (drop i d) (simp length-drop (omega arith))
-
 -- data with no DLE in it is sent as it is
 plain-first : (b : ℕ) (bs : List ℕ) (t : Bool) → eqb b DLE ≡ t → (every isOther bs ≡ true → doubled bs ≡ bs) →
     not t && every isOther bs ≡ true → sent b ++ doubled bs ≡ b ∷ bs
@@ -78,7 +76,7 @@ plain-first b bs true e ih p = absurd (false≢true p)
 plain-first b bs false e ih p = rw (sent-other b (eqb-false b DLE e), ih p)
 
 pub plain : (d : List ℕ) → every isOther d ≡ true → doubled d ≡ d
-unfolding doubled every
+unfolding doubled
 plain [] = λ p. refl
 plain (b ∷ bs) = plain-first b bs (eqb b DLE) refl (plain bs)
 
@@ -91,30 +89,23 @@ run-first b bs true e ih p =
     rw (sent-dle b (eqb-true b DLE e), ih p, eqb-true b DLE e, suc-add (length bs) (suc (length bs)), add-suc (length bs) (length bs))
 
 pub run : (d : List ℕ) → every isDle d ≡ true → doubled d ≡ replicate (length d + length d) DLE
-unfolding doubled every
+unfolding doubled
 run [] = λ p. refl
 run (b ∷ bs) = run-first b bs (eqb b DLE) refl (run bs)
-
--- one byte of a run
-pub next-of-run : (n b i : ℕ) → i < n → Splits (replicate (n - i) b) (b ∷ []) (replicate (n - (i + 1)) b)
-next-of-run n b i h = let k : n - i ≡ suc (n - (i + 1)) = omega arith in record { is = rw k }
 
 -- whether a byte before place i has failed a test is known: what is left decides
 module _ (test : ℕ → Bool) (d : List ℕ) (i : ℕ) (failed : Bool) (known : not failed && every test (drop i d) ≡ every test d) where
   pub every-next : i < length d → test (getD d i 0) ≡ true → not failed && every test (drop (i + 1) d) ≡ every test d
-  unfolding every
   every-next h e =
       let first : every test (drop i d) ≡ every test (drop (i + 1) d) = rw (drop-cons d i 0, add-one) (rw e) in
       rw (← first) known
 
   pub every-fails : i < length d → test (getD d i 0) ≡ false → false ≡ every test d
-  unfolding every
   every-fails h e =
       let first : every test (drop i d) ≡ false = rw (drop-cons d i 0) (rw e) in
       sym (and-false (not failed)) ∙ rw (← first) known
 
   pub every-end : length d ≤ i → not failed ≡ every test d
-  unfolding every
   every-end h =
       let none : every test (drop i d) ≡ true = rw (drop-of-length-le d h) in
       sym (and-true (not failed)) ∙ rw (← none) known

@@ -9,11 +9,11 @@ use borrow.Author.Tests.{lt-ltb, le-ltb}
 use lib.ListN.{length, set, length-append}
 use lib.Seq.{sets}
 use Rattle.base.specs.Filling.{denied, written}
+use Rattle.base.specs.Private.Writing.{Writing, writing}
 use Rattle.base.proofs.Places.{sets-append, sets-placed}
 use Rattle.base.proofs.Filling.{fitted-short, fitted-room}
 use Rattle.link_frame.specs.ControlBytes.{ETX, DLE}
 use Rattle.link_frame.specs.Frame.{doubled, checked, checkByte, frameOf, framing}
-use Rattle.link_frame.specs.Writing.{Writing, writing}
 use Rattle.refusal.specs.Writing.{fillingOf}
 use Rattle.refusal.specs.declared.WriteAnswer.the-variants.{Written}
 

@@ -1,3 +1,3 @@
 pub mod ControlBytes
 pub mod Frame
-pub mod Writing
+pub mod Private

@@ -9,9 +9,11 @@ ghost use mathlib.Core.Path.{_≡_};
 ghost use Prim.Native.Nat.{_+_, _≤_};
 ghost use lib.ListN.{length, replicate};
 ghost use Rattle.base.specs.Filling.{written};
+ghost use Rattle.base.specs.Private.Writing.{writing, writingOf};
+ghost use Rattle.base.specs.Private.Tests.{every};
 ghost use Rattle.refusal.specs.Writing.{fillingOf};
 ghost use Rattle.link_frame.specs.Frame.{checkByte, doubled, frameOf, framing, xorOver};
-ghost use Rattle.link_frame.specs.Writing.{every, isDle, isOther, writing, writingOf};
+ghost use Rattle.link_frame.specs.Private.Tests.{isDle, isOther};
 
 // The most bytes of data in one block.
 pub const MAX_DATA: usize = 1024;
@@ -68,22 +70,6 @@ fn is_all_dle(part: &[u8]) -> bool
     !other
 }
 
-// Writes a part as it is, its first byte at place from, and gives the place behind it.
-fn write_plain(part: &[u8], out: &mut [u8], from: usize) -> usize
-    requires { ⌜ from + length (now part) ≤ length (now out) ⌝ }
-    ensures { λ r. ⌜ writingOf r (now (out .exit)) ≡ writing from (now (part .entry)) (now (out .entry)) ⌝ }
-{
-    let mut at = from;
-    let mut i: usize = 0;
-    while i < part.len() {
-        let b = part[i];
-        i += 1;
-        out[at] = b;
-        at += 1;
-    }
-    at
-}
-
 // Writes a part with each DLE doubled, its first byte at place from, and gives the place behind it.
 fn write_doubling(part: &[u8], out: &mut [u8], from: usize) -> usize
     requires { ⌜ from + length (doubled (now part)) ≤ length (now out) ⌝ }
@@ -106,6 +92,9 @@ fn write_doubling(part: &[u8], out: &mut [u8], from: usize) -> usize
     at
 }
 
+// In the next two functions `put` is handed as many places as it has bytes to copy: so the compiler knows that there is room, and
+// tests nothing.
+
 // The length of a part.
 const PART: usize = 16;
 
@@ -117,14 +106,10 @@ fn write_run(out: &mut [u8], from: usize) -> usize
     requires { ⌜ from + 32 ≤ length (now out) ⌝ }
     ensures { λ r. ⌜ writingOf r (now (out .exit)) ≡ writing from (replicate 32 16) (now (out .entry)) ⌝ }
 {
-    let mut at = from;
-    let mut i: usize = 0;
-    while i < RUN {
-        i += 1;
-        out[at] = DLE;
-        at += 1;
-    }
-    at
+    let end = from + RUN;
+    let run = [DLE; RUN];
+    places::put(&run, &mut out[from..end], 0);
+    end
 }
 
 // Writes a part as it is, by way of a copy. For all that the compiler knows, part and out overlap, and from one to the
@@ -133,9 +118,11 @@ fn write_whole(part: &[u8], out: &mut [u8], from: usize) -> usize
     requires { ⌜ (length (now part) ≡ 16) × (from + length (now part) ≤ length (now out)) ⌝ }
     ensures { λ r. ⌜ writingOf r (now (out .exit)) ≡ writing from (now (part .entry)) (now (out .entry)) ⌝ }
 {
+    let end = from + PART;
     let mut copy = [0u8; PART];
-    write_plain(part, &mut copy, 0);
-    write_plain(&copy, &mut *out, from)
+    places::put(part, &mut copy, 0);
+    places::put(&copy, &mut out[from..end], 0);
+    end
 }
 
 // Writes a part with each DLE doubled. One that has none, and one of nothing else, are written as a whole.

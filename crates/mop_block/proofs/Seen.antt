@@ -3,13 +3,14 @@
 use mathlib.Core.Path.{_≡_, refl, sym, _∙_}
 use mathlib.Core.Bool.{Bool, true, false, not, _&&_, _||_, and-false, and-eq-true-iff}
 use mathlib.Core.List.{List, [], _∷_}
-use Prim.Native.Nat.{ℕ, zero, suc, _+_, _≤_, _<_}
+use Prim.Native.Nat.{ℕ, _+_, _≤_, _<_}
 use native.Mathlib.Numerals.{add-one}
 use native.Mathlib.Omega.{arith}
 use lib.Dec.{eqb, leb}
 use lib.ListN.{length, getD, set, drop, replicate, length-replicate, length-set, drop-of-length-le}
 use lib.Seq.{drop-cons, getD-set-same, getD-set-other}
 use borrow.Author.Tests.{eqb-true, eqb-false, leb-true}
+use Rattle.base.proofs.Places.{getD-all}
 use Rattle.mop_block.specs.Block.{isAddress, has, distinctAddresses}
 
 -- whether each number is an address and not seen, with those before it seen as well
@@ -63,15 +64,10 @@ new-parts seen [] e = refl
 new-parts seen (a ∷ rest) e =
     new-first seen a rest (isAddress a) refl e (new-parts (set seen a true) rest (simp length-set e))
 
-getD-clear : (n a : ℕ) → getD (replicate n false) a false ≡ false
-getD-clear zero a = refl
-getD-clear (suc n) zero = refl
-getD-clear (suc n) (suc a) = getD-clear n a
-
 unseen-clear : (n : ℕ) (l : List ℕ) → unseen (replicate n false) l ≡ true
 unfolding unseen
 unseen-clear n [] = refl
-unseen-clear n (a ∷ l) = rw (getD-clear n a) (unseen-clear n l)
+unseen-clear n (a ∷ l) = rw (getD-all n a false) (unseen-clear n l)
 
 -- with a clear table
 pub new-clear : (l : List ℕ) → allNew (replicate 256 false) l ≡ distinctAddresses l

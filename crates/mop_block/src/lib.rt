@@ -1,11 +1,11 @@
 // The block of a telegram: entries in a ring, 00s and the addresses of stations, and the rule for them.
 ghost use mathlib.Core.Path.{_≡_};
 ghost use mathlib.Core.List.{[], _∷_};
-ghost use mathlib.Core.Bool.{true, false, not, _&&_, _||_};
+ghost use mathlib.Core.Bool.{true, false, not, _&&_};
 ghost use Prim.Native.Nat.{_≤_};
-ghost use lib.Dec.{eqb, ltb};
+ghost use lib.Dec.{ltb};
 ghost use lib.ListN.{length, getD, set};
-ghost use Rattle.mop_block.specs.Block.{isAddress, has, distinctAddresses, stations, zeroEnds, goodBlock};
+ghost use Rattle.mop_block.specs.Block.{isAddress, distinctAddresses, stations, zeroEnds, goodBlock};
 
 // Whether a number is an address: 01 to F0.
 pub fn is_address(a: u8) -> bool

@@ -6,7 +6,8 @@ use mathlib.Core.Bool.{_&&_, not}
 use native.Mathlib.Omega.{arith}
 use borrow.Author.Tests.{eq-eqb, ne-eqb}
 use lib.ListN.{length, drop}
-use Rattle.link_frame.specs.Writing.{every, isDle}
+use Rattle.base.specs.Private.Tests.{every}
+use Rattle.link_frame.specs.Private.Tests.{isDle}
 use Rattle.link_frame.proofs.Doubling.{every-next, every-fails, every-end}
 use Rattle.link_frame.proofs.is_all_dle.Statement.{statement}
 use Rattle.link_frame.proofs.is_all_dle.Tie as tie

@@ -1,14 +1,15 @@
 -- `write_doubled`: what is done, and what is left from i on, make the whole. What is left falls.
 -- Assumes nothing.
 use Prim.Native.Nat.{ℕ, _≤_, _+_, _-_}
-use mathlib.Core.Path.{_≡_, refl, ap, _∙_}
+use mathlib.Core.Path.{_≡_, refl, _∙_}
 use native.Mathlib.Omega.{arith}
 use borrow.Author.Needs.{needs}
 use lib.ListN.{length, drop, length-take, length-drop}
+use Rattle.base.specs.Private.Writing.{writing}
+use Rattle.base.proofs.Places.{take-rest}
+use Rattle.base.proofs.Writing.{writing-step, writing-call, same-place}
 use Rattle.link_frame.specs.Frame.{doubled}
-use Rattle.link_frame.specs.Writing.{Writing, writing}
-use Rattle.link_frame.proofs.Doubling.{next-part, last-part}
-use Rattle.link_frame.proofs.Steps.{writing-step, place}
+use Rattle.link_frame.proofs.Doubling.{next-part}
 use Rattle.link_frame.proofs.write_doubled.Statement.{statement}
 use Rattle.link_frame.proofs.write_doubled.Tie as tie
 
@@ -46,7 +47,7 @@ write-part-requires : tie.Need-write-part-requires Inv-loop μ-loop
 write-part-requires c κs =
     let v = c .before .before .before .loop in
     let e = next-part (c .before .before .before .before .before .before .args .src .now) (v .i) (v .i + PART) (omega arith) in
-    (simp (length-take, length-drop) (omega arith), omega (arith, place (writing-step e (v .at) (v .out) (v .inv .3))))
+    (simp (length-take, length-drop) (omega arith), omega (arith, same-place (writing-step e (v .at) (v .out) (v .inv .3))))
 
 loop-less : tie.Need-loop-less Inv-loop μ-loop
 loop-less c = search needs
@@ -60,8 +61,7 @@ loop-again c =
       refl,
       omega arith,
       p .kept .1 .0 ∙ v .inv .2,
-      ap (λ (w : Writing). writing (w .at) (doubled (drop (v .i + PART) src)) (w .output)) (p .ensures)
-          ∙ writing-step e (v .at) (v .out) (v .inv .3),
+      writing-call e (v .at) (v .out) (p .ensures) (v .inv .3),
     )
 
 sub-write-doubling : tie.Need-sub-write-doubling Inv-loop μ-loop
@@ -76,7 +76,7 @@ part-write-doubling-end c = search needs
 write-doubling-requires : tie.Need-write-doubling-requires Inv-loop μ-loop
 write-doubling-requires c κs =
     let v = c .before .before .before .loop in
-    rw (last-part (c .before .before .before .before .before .before .args .src .now) (v .i)) (omega (arith, place (v .inv .3)))
+    rw (take-rest (v .i) (c .before .before .before .before .before .before .args .src .now)) (omega (arith, same-place (v .inv .3)))
 
 same-length : tie.Need-same-length Inv-loop μ-loop
 same-length c = c .before .before .write-doubling .kept .1 .0 ∙ c .before .before .before .before .before .before .loop .inv .2
@@ -85,7 +85,7 @@ returns : tie.Need-returns Inv-loop μ-loop
 returns c =
     let v = c .before .before .before .before .before .before .loop in
     let src = c .before .before .before .before .before .before .before .before .before .args .src .now in
-    c .before .before .write-doubling .ensures ∙ rw (last-part src (v .i)) (v .inv .3)
+    c .before .before .write-doubling .ensures ∙ rw (take-rest (v .i) src) (v .inv .3)
 
 pub write-doubled-spec : {M : Type 1} → statement M
 write-doubled-spec =

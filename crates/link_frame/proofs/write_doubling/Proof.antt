@@ -5,10 +5,10 @@ use mathlib.Core.Path.{_≡_, refl, ap}
 use native.Mathlib.Numerals.{add-one}
 use native.Mathlib.Omega.{arith}
 use lib.ListN.{length, drop, length-set}
+use Rattle.base.specs.Private.Writing.{writing}
+use Rattle.base.proofs.Writing.{writing-step, writing-end, same-place}
 use Rattle.link_frame.specs.Frame.{doubled}
-use Rattle.link_frame.specs.Writing.{writing}
 use Rattle.link_frame.proofs.Doubling.{Twice, Once, none-left, next-dle, next-other}
-use Rattle.link_frame.proofs.Steps.{writing-step, writing-end, place}
 use Rattle.link_frame.proofs.write_doubling.Statement.{statement}
 use Rattle.link_frame.proofs.write_doubling.Tie as tie
 
@@ -41,17 +41,17 @@ add-i : tie.Need-add-i Inv-loop μ-loop
 add-i c = omega arith
 
 slice-write-out : tie.Need-slice-write-out Inv-loop μ-loop
-slice-write-out c = omega (arith, place (c .before .before .before .loop .inv .2), ap length (dle c .is))
+slice-write-out c = omega (arith, same-place (c .before .before .before .loop .inv .2), ap length (dle c .is))
 
 add-out : tie.Need-add-out Inv-loop μ-loop
-add-out c = omega (arith, place (c .before .before .before .loop .inv .2), ap length (dle c .is))
+add-out c = omega (arith, same-place (c .before .before .before .loop .inv .2), ap length (dle c .is))
 
 slice-write-out-2 : tie.Need-slice-write-out-2 Inv-loop μ-loop
 slice-write-out-2 c =
-    simp length-set (omega (arith, place (c .before .before .before .loop .inv .2), ap length (dle c .is)))
+    simp length-set (omega (arith, same-place (c .before .before .before .loop .inv .2), ap length (dle c .is)))
 
 add-at : tie.Need-add-at Inv-loop μ-loop
-add-at c = omega (arith, place (c .before .before .before .loop .inv .2), ap length (dle c .is))
+add-at c = omega (arith, same-place (c .before .before .before .loop .inv .2), ap length (dle c .is))
 
 loop-less : tie.Need-loop-less Inv-loop μ-loop
 loop-less c = omega arith
@@ -65,10 +65,10 @@ loop-again c =
     )
 
 slice-write-out-3 : tie.Need-slice-write-out-3 Inv-loop μ-loop
-slice-write-out-3 c = omega (arith, place (c .before .before .before .loop .inv .2), ap length (other c .is))
+slice-write-out-3 c = omega (arith, same-place (c .before .before .before .loop .inv .2), ap length (other c .is))
 
 add-at-2 : tie.Need-add-at-2 Inv-loop μ-loop
-add-at-2 c = omega (arith, place (c .before .before .before .loop .inv .2), ap length (other c .is))
+add-at-2 c = omega (arith, same-place (c .before .before .before .loop .inv .2), ap length (other c .is))
 
 loop-less-2 : tie.Need-loop-less-2 Inv-loop μ-loop
 loop-less-2 c = omega arith

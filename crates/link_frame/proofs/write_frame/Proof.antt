@@ -2,8 +2,8 @@
 -- Assumes nothing.
 use native.Mathlib.Omega.{arith}
 use lib.ListN.{length-set}
+use Rattle.base.proofs.Writing.{same-place}
 use Rattle.link_frame.proofs.Framing.{frame-written}
-use Rattle.link_frame.proofs.Steps.{place}
 use borrow.Author.Needs.{needs}
 use Rattle.link_frame.proofs.write_frame.Statement.{statement}
 use Rattle.link_frame.proofs.write_frame.Tie as tie
@@ -12,25 +12,25 @@ write-doubled-requires : tie.Need-write-doubled-requires
 write-doubled-requires c κs = search needs
 
 slice-write-out : tie.Need-slice-write-out
-slice-write-out c = omega (arith, place (c .before .before .write-doubled .ensures))
+slice-write-out c = omega (arith, same-place (c .before .before .write-doubled .ensures))
 
 add-out : tie.Need-add-out
-add-out c = omega (arith, place (c .before .before .write-doubled .ensures))
+add-out c = omega (arith, same-place (c .before .before .write-doubled .ensures))
 
 slice-write-out-2 : tie.Need-slice-write-out-2
-slice-write-out-2 c = simp length-set (omega (arith, place (c .before .before .write-doubled .ensures)))
+slice-write-out-2 c = simp length-set (omega (arith, same-place (c .before .before .write-doubled .ensures)))
 
 check-byte-requires : tie.Need-check-byte-requires
-check-byte-requires c κs = omega (arith, place (c .before .before .write-doubled .ensures))
+check-byte-requires c κs = omega (arith, same-place (c .before .before .write-doubled .ensures))
 
 add-out-2 : tie.Need-add-out-2
-add-out-2 c = omega (arith, place (c .before .before .before .write-doubled .ensures))
+add-out-2 c = omega (arith, same-place (c .before .before .before .write-doubled .ensures))
 
 slice-write-out-3 : tie.Need-slice-write-out-3
-slice-write-out-3 c = simp length-set (omega (arith, place (c .before .before .before .write-doubled .ensures)))
+slice-write-out-3 c = simp length-set (omega (arith, same-place (c .before .before .before .write-doubled .ensures)))
 
 add-t7 : tie.Need-add-t7
-add-t7 c = omega (arith, place (c .before .before .before .write-doubled .ensures))
+add-t7 c = omega (arith, same-place (c .before .before .before .write-doubled .ensures))
 
 same-length : tie.Need-same-length
 same-length c = search needs

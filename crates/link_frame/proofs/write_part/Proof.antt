@@ -13,7 +13,7 @@ has-no-dle-requires c κs = search needs
 
 write-whole-requires : tie.Need-write-whole-requires
 write-whole-requires c κs =
-    omega (arith, ap length (plain _ (sym (c .before .before .has-no-dle .ensures) ∙ c .before .if1 .taken)))
+    omega (arith, ap length (plain (c .before .before .before .before .before .args .part .now) (sym (c .before .before .has-no-dle .ensures) ∙ c .before .if1 .taken)))
 
 same-length : tie.Need-same-length
 same-length c = search needs
@@ -21,14 +21,14 @@ same-length c = search needs
 returns : tie.Need-returns
 returns c =
     let test = c .before .before .before .before in
-    c .before .before .write-whole .ensures ∙ rw (plain _ (sym (test .before .has-no-dle .ensures) ∙ test .if1 .taken))
+    c .before .before .write-whole .ensures ∙ rw (plain (test .before .before .before .before .args .part .now) (sym (test .before .has-no-dle .ensures) ∙ test .if1 .taken))
 
 is-all-dle-requires : tie.Need-is-all-dle-requires
 is-all-dle-requires c κs = search needs
 
 write-run-requires : tie.Need-write-run-requires
 write-run-requires c κs =
-    let e = run _ (sym (c .before .before .is-all-dle .ensures) ∙ c .before .if2 .taken) in
+    let e = run (c .before .before .before .before .before .before .before .args .part .now) (sym (c .before .before .is-all-dle .ensures) ∙ c .before .if2 .taken) in
     omega (arith, simp length-replicate at (ap length e))
 
 same-length-2 : tie.Need-same-length-2
@@ -37,9 +37,10 @@ same-length-2 c = search needs
 returns-2 : tie.Need-returns-2
 returns-2 c =
     let test = c .before .before .before .before in
-    let long : length (test .before .before .before .before .before .before .args .part .now) ≡ 16 = omega arith in
+    let part = test .before .before .before .before .before .before .args .part .now in
+    let long : length part ≡ 16 = omega arith in
     c .before .before .write-run .ensures
-    ∙ rw (run _ (sym (test .before .is-all-dle .ensures) ∙ test .if2 .taken)) (rw long)
+    ∙ rw (run part (sym (test .before .is-all-dle .ensures) ∙ test .if2 .taken)) (rw long)
 
 write-doubling-requires : tie.Need-write-doubling-requires
 write-doubling-requires c κs = search needs

@@ -1,69 +1,48 @@
--- `write_run`: what is done, and what is left of the run, make the whole. What is left falls.
+-- `write_run`: the run is copied.
 -- Assumes nothing.
-use Prim.Native.Nat.{ℕ, _≤_, _+_, _-_}
-use mathlib.Core.Path.{_≡_, refl, ap}
-use native.Mathlib.Omega.{arith}
-use lib.ListN.{length, replicate, length-set}
+use mathlib.Core.Path.{refl}
+use lib.ListN.{replicate}
+use Rattle.base.proofs.Writing.{part-written}
 use Rattle.link_frame.specs.ControlBytes.{DLE}
-use Rattle.link_frame.specs.Writing.{writing}
-use Rattle.link_frame.proofs.Doubling.{next-of-run}
-use Rattle.link_frame.proofs.Steps.{writing-step, writing-end}
+use borrow.Author.Needs.{needs}
 use Rattle.link_frame.proofs.write_run.Statement.{statement}
 use Rattle.link_frame.proofs.write_run.Tie as tie
 
--- the length of a run in the code
-abbrev RUN : ℕ
-RUN = 32
+add-end : tie.Need-add-end
+add-end c = search needs
 
-abbrev Inv-loop : tie.InvT-loop
-Inv-loop out₀ from at₀ i₀ out at i =
-    (i ≤ RUN) × (length out ≡ length out₀) × (at ≡ from + i)
-    × (writing at (replicate (RUN - i) DLE) out ≡ writing from (replicate RUN DLE) out₀)
+slice-aggregate-put : tie.Need-slice-aggregate-put
+slice-aggregate-put c = search needs
 
-abbrev μ-loop : tie.MeasureT-loop
-μ-loop out₀ from at₀ i₀ out at i = RUN - i
+sub-put : tie.Need-sub-put
+sub-put c = search needs
 
-loop-holds : tie.Need-loop-holds Inv-loop μ-loop
-loop-holds c = (omega arith, refl, omega arith, refl)
+part-put-start : tie.Need-part-put-start
+part-put-start c = search needs
 
-add-i : tie.Need-add-i Inv-loop μ-loop
-add-i c = omega arith
+part-put-end : tie.Need-part-put-end
+part-put-end c = search needs
 
-slice-write-out : tie.Need-slice-write-out Inv-loop μ-loop
-slice-write-out c = omega arith
+put-requires : tie.Need-put-requires
+put-requires c κs = search needs
 
-add-at : tie.Need-add-at Inv-loop μ-loop
-add-at c = omega arith
+same-length : tie.Need-same-length
+same-length c = search needs
 
-loop-less : tie.Need-loop-less Inv-loop μ-loop
-loop-less c = omega arith
-
-loop-again : tie.Need-loop-again Inv-loop μ-loop
-loop-again c =
-    let v = c .before .loop in
-    let e = next-of-run RUN DLE (v .i) (omega arith) in
-    (omega arith, simp length-set (v .inv .1), omega arith, writing-step e (v .at) (v .out) (v .inv .3))
-
-same-length : tie.Need-same-length Inv-loop μ-loop
-same-length c = c .before .loop .inv .1
-
-returns : tie.Need-returns Inv-loop μ-loop
+returns : tie.Need-returns
 returns c =
-    let v = c .before .loop in
-    let done : RUN - v .i ≡ 0 = omega arith in
-    writing-end (ap (λ (n : ℕ). replicate n DLE) done) (v .at) (v .out) (v .inv .3)
+    let a = c .before .before .before .before .before .before .args in
+    part-written (a .from) (replicate 32 DLE) (a .out .now) refl (search needs) (c .before .before .put .ensures)
 
 pub write-run-spec : {M : Type 1} → statement M
 write-run-spec =
     tie.close
     (tie.spec
-    Inv-loop
-    μ-loop
-    loop-holds
-    add-i
-    slice-write-out
-    add-at
-    loop-less
-    loop-again
+    add-end
+    slice-aggregate-put
+    sub-put
+    part-put-start
+    part-put-end
+    put-requires
     same-length
     returns)

@@ -1,24 +1,40 @@
 -- `write_whole`: the copy is the part.
 -- Assumes nothing.
-use mathlib.Core.Path.{ap, _∙_}
-use lib.ListN.{replicate}
-use Rattle.link_frame.specs.Writing.{Writing, writing}
-use Rattle.link_frame.proofs.Steps.{sets-all}
+use mathlib.Core.Path.{_≡_, ap, _∙_}
+use mathlib.Core.List.{List}
+use Prim.Native.Nat.{ℕ, _+_, _-_}
+use native.Mathlib.Omega.{arith}
+use lib.ListN.{length, take, drop, replicate}
+use lib.Seq.{sets}
+use Rattle.base.proofs.Places.{sets-all}
+use Rattle.base.proofs.Writing.{part-written}
 use borrow.Author.Needs.{needs}
 use Rattle.link_frame.proofs.write_whole.Statement.{statement}
 use Rattle.link_frame.proofs.write_whole.Tie as tie
 
-slice-aggregate-write-plain : tie.Need-slice-aggregate-write-plain
-slice-aggregate-write-plain c = search needs
+add-end : tie.Need-add-end
+add-end c = search needs
 
-write-plain-requires : tie.Need-write-plain-requires
-write-plain-requires c κs = search needs
+slice-aggregate-put : tie.Need-slice-aggregate-put
+slice-aggregate-put c = search needs
 
-slice-aggregate-write-plain-2 : tie.Need-slice-aggregate-write-plain-2
-slice-aggregate-write-plain-2 c = search needs
+put-requires : tie.Need-put-requires
+put-requires c κs = search needs
 
-write-plain-requires-2 : tie.Need-write-plain-requires-2
-write-plain-requires-2 c κs = search needs
+slice-aggregate-put-2 : tie.Need-slice-aggregate-put-2
+slice-aggregate-put-2 c = search needs
+
+sub-put : tie.Need-sub-put
+sub-put c = search needs
+
+part-put-start : tie.Need-part-put-start
+part-put-start c = search needs
+
+part-put-end : tie.Need-part-put-end
+part-put-end c = search needs
+
+put-requires-2 : tie.Need-put-requires-2
+put-requires-2 c κs = search needs
 
 same-length : tie.Need-same-length
 same-length c = search needs
@@ -27,18 +43,21 @@ returns : tie.Need-returns
 returns c =
     let start = c .before .before .before .before .before .before .before .before .before .before in
     let a = start .args in
-    let first = c .before .before .before .before .before .before .write-plain in
-    c .before .before .write-plain2 .ensures
-    ∙ ap (λ (w : Writing). writing (a .from) (w .output) (a .out .now)) (first .ensures)
-    ∙ rw (sets-all (a .part .now) (replicate 16 0) (start .pre .0))
+    let copied = c .before .before .before .before .before .before .put .ensures ∙ sets-all (a .part .now) (replicate 16 0) (start .pre .0) in
+    part-written (a .from) (a .part .now) (a .out .now) (omega arith) (omega arith)
+    (c .before .before .put2 .ensures ∙ ap (λ (l : List ℕ). sets (take (a .from + 16 - a .from) (drop (a .from) (a .out .now))) 0 l) copied)
 
 pub write-whole-spec : {M : Type 1} → statement M
 write-whole-spec =
     tie.close
     (tie.spec
-    slice-aggregate-write-plain
-    write-plain-requires
-    slice-aggregate-write-plain-2
-    write-plain-requires-2
+    add-end
+    slice-aggregate-put
+    put-requires
+    slice-aggregate-put-2
+    sub-put
+    part-put-start
+    part-put-end
+    put-requires-2
     same-length
     returns)
