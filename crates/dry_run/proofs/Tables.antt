@@ -2,14 +2,14 @@
 -- Assumes nothing.
 use mathlib.Core.Path.{_≡_, _∙_, ap}
 use mathlib.Core.List.{List, _++_}
-use Prim.Native.Nat.{ℕ}
+use Prim.Native.Nat.{ℕ, _*_}
 use lib.ListN.{replicate}
 use lib.Seq.{sets}
-use Rattle.mop_registers.specs.Rows.{factory}
+use Rattle.mop_registers.specs.Rows.{tableLength, factory}
 
-pub three-tables : {values one two three : List ℕ} → values ≡ factory → one ≡ sets (replicate 54 0) 0 values → two ≡ sets one 18 values →
-    three ≡ sets two 36 values → three ≡ factory ++ (factory ++ factory)
-unfolding factory
+pub three-tables : {values one two three : List ℕ} → values ≡ factory → one ≡ sets (replicate (3 * tableLength) 0) 0 values →
+    two ≡ sets one tableLength values → three ≡ sets two (2 * tableLength) values → three ≡ factory ++ (factory ++ factory)
+unfolding factory tableLength
 three-tables {values} e first second third =
-    third ∙ ap (λ (l : List ℕ). sets l 36 values) (second ∙ ap (λ (l : List ℕ). sets l 18 values) first)
-    ∙ ap (λ (v : List ℕ). sets (sets (sets (replicate 54 0) 0 v) 18 v) 36 v) e
+    third ∙ ap (λ (l : List ℕ). sets l (2 * tableLength) values) (second ∙ ap (λ (l : List ℕ). sets l tableLength values) first)
+    ∙ ap (λ (v : List ℕ). sets (sets (sets (replicate (3 * tableLength) 0) 0 v) tableLength v) (2 * tableLength) v) e

@@ -1,5 +1,5 @@
 pub mod Tests
 pub mod Places
-pub mod Agreement
+pub mod Columns
 pub mod Runs
 pub mod Values

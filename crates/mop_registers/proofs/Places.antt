@@ -13,7 +13,7 @@ use Rattle.mop_registers.specs.Rows.{Row, rows, rowsBefore, writeOf, ran
 use Rattle.mop_registers.specs.Runs.{runExists}
 use Rattle.mop_registers.proofs.Tests.{every, every-at}
 
-pub table-length : tableLength ≡ 18
+pub table-length : tableLength ≡ length rows
 unfolding tableLength
 table-length = refl
 

@@ -6,15 +6,11 @@ use mathlib.Core.List.{List, [], _∷_}
 use Prim.Native.Nat.{ℕ, zero, suc, _<_}
 use native.Mathlib.Omega.{arith}
 use lib.ListN.{length, getD}
+pub use Rattle.base.specs.Private.Tests.{every}
 
 pub both-true : (a b : Bool) → (a && b) ≡ true → (a ≡ true) × (b ≡ true)
 both-true true b e = (refl, e)
 both-true false b e = absurd (false≢true e)
-
--- the test holds of each element
-abbrev pub every : (ℕ → Bool) → List ℕ → Bool
-every f [] = true
-every f (x ∷ xs) = f x && every f xs
 
 pub every-at : (f : ℕ → Bool) (l : List ℕ) → every f l ≡ true → (i : ℕ) → i < length l → f (getD l i 0) ≡ true
 every-at f [] e i h = absurd (omega arith)

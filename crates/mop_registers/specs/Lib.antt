@@ -1,3 +1,3 @@
 pub mod Rows
 pub mod Runs
-pub mod Agreement
+pub mod Private

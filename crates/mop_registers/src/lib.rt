@@ -3,62 +3,110 @@ ghost use mathlib.Core.Path.{_≡_};
 ghost use Rattle.base.specs.Words.{wordsOf};
 ghost use Rattle.mop_registers.specs.Rows.{placeOf, mayWrite, takes, factory};
 ghost use Rattle.mop_registers.specs.Runs.{runExists, runMayWrite, runTakes};
-ghost use Rattle.mop_registers.specs.Agreement.{Agrees};
+ghost use Rattle.mop_registers.specs.Private.Columns.{allowsWrite, valuesIn, writeAt, rangeAt};
 
 // The length of a station's table of values.
 pub const TABLE_LENGTH: usize = 18;
 
-// A register: its place, whether it takes writes, the least and the largest value in its range, and whether 65535 is
-// in its range besides.
-struct Register(usize, bool, u16, u16, bool);
+// Whether a register takes writes.
+enum Access {
+    ReadOnly,
+    ReadWrite,
+}
 
-// The register of a number. A number that no register has gets the place TABLE_LENGTH, and takes nothing.
-fn register_of(number: usize) -> Register
-    ensures { λ r. ⌜ Agrees r number ⌝ }
-{
-    match number {
-        2 => Register(0, false, 0, 65535, false),
-        300 => Register(1, true, 0, 3, false),
-        931 => Register(2, false, 0, 65535, false),
-        932 => Register(3, false, 0, 65535, false),
-        933 => Register(4, false, 0, 65535, false),
-        934 => Register(5, false, 0, 65535, false),
-        935 => Register(6, false, 0, 65535, false),
-        936 => Register(7, false, 0, 65535, false),
-        952 => Register(8, true, 1, 1440, false),
-        953 => Register(9, true, 2, 25, false),
-        955 => Register(10, true, 0, 5947, false),
-        956 => Register(11, true, 0, 59, false),
-        957 => Register(12, true, 0, 5947, true),
-        958 => Register(13, true, 1, 1440, false),
-        959 => Register(14, true, 1, 3600, true),
-        960 => Register(15, true, 1, 1440, false),
-        961 => Register(16, true, 1, 1440, false),
-        962 => Register(17, true, 0, 1, false),
-        _ => Register(TABLE_LENGTH, false, 1, 0, false),
-    }
+// The values that a register takes: any; from the least to the largest; these, or 65535; none, where no register is.
+enum Range {
+    Any,
+    FromTo(u16, u16),
+    FromToOr65535(u16, u16),
+    NoValue,
 }
 
 // The place of a register's value in a table; TABLE_LENGTH for a number that no register has.
 pub fn place_of(number: usize) -> usize
     ensures { λ r. ⌜ r ≡ placeOf number ⌝ }
 {
-    register_of(number).0
+    match number {
+        2 => 0,
+        300 => 1,
+        931 => 2,
+        932 => 3,
+        933 => 4,
+        934 => 5,
+        935 => 6,
+        936 => 7,
+        952 => 8,
+        953 => 9,
+        955 => 10,
+        956 => 11,
+        957 => 12,
+        958 => 13,
+        959 => 14,
+        960 => 15,
+        961 => 16,
+        962 => 17,
+        _ => TABLE_LENGTH,
+    }
+}
+
+// The access to the register at a place. Where no register is, nothing is written.
+fn access_at(place: usize) -> Access
+    ensures { λ r. ⌜ allowsWrite r ≡ writeAt place ⌝ }
+{
+    match place {
+        1 => Access::ReadWrite, // 300
+        8..=17 => Access::ReadWrite, // 952 to 962
+        _ => Access::ReadOnly, // 2, and 931 to 936
+    }
+}
+
+// The range of the register at a place.
+fn range_at(place: usize) -> Range
+    ensures { λ r. ⌜ valuesIn r ≡ rangeAt place ⌝ }
+{
+    match place {
+        0 => Range::Any, // 2
+        1 => Range::FromTo(0, 3), // 300
+        2 => Range::Any, // 931
+        3 => Range::Any, // 932
+        4 => Range::Any, // 933
+        5 => Range::Any, // 934
+        6 => Range::Any, // 935
+        7 => Range::Any, // 936
+        8 => Range::FromTo(1, 1440), // 952
+        9 => Range::FromTo(2, 25), // 953
+        10 => Range::FromTo(0, 5947), // 955
+        11 => Range::FromTo(0, 59), // 956
+        12 => Range::FromToOr65535(0, 5947), // 957
+        13 => Range::FromTo(1, 1440), // 958
+        14 => Range::FromToOr65535(1, 3600), // 959
+        15 => Range::FromTo(1, 1440), // 960
+        16 => Range::FromTo(1, 1440), // 961
+        17 => Range::FromTo(0, 1), // 962
+        _ => Range::NoValue,
+    }
 }
 
 // Whether a register takes writes.
 fn may_write(number: usize) -> bool
     ensures { λ r. ⌜ r ≡ mayWrite number ⌝ }
 {
-    register_of(number).1
+    match access_at(place_of(number)) {
+        Access::ReadOnly => false,
+        Access::ReadWrite => true,
+    }
 }
 
 // Whether a value is in a register's range.
 fn takes(number: usize, value: u16) -> bool
     ensures { λ r. ⌜ r ≡ takes number value ⌝ }
 {
-    let e = register_of(number);
-    ((e.2 <= value) & (value <= e.3)) | (e.4 & (value == 65535))
+    match range_at(place_of(number)) {
+        Range::Any => true,
+        Range::FromTo(from, to) => (from <= value) & (value <= to),
+        Range::FromToOr65535(from, to) => ((from <= value) & (value <= to)) | (value == 65535),
+        Range::NoValue => false,
+    }
 }
 
 // Whether every register of a run exists.

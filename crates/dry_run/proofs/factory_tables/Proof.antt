@@ -1,6 +1,7 @@
 -- `factory_tables`: three copies, one behind the other.
 -- Assumes nothing.
 use borrow.Author.Needs.{needs}
+use Rattle.mop_registers.specs.Rows.{tableLength}
 use Rattle.dry_run.proofs.Tables.{three-tables}
 use Rattle.dry_run.proofs.factory_tables.Statement.{statement}
 use Rattle.dry_run.proofs.factory_tables.Tie as tie
@@ -39,7 +40,13 @@ put-values-requires-3 : tie.Need-put-values-requires-3
 put-values-requires-3 c κs = search needs
 
 returns : tie.Need-returns
-returns c = three-tables (c .before .before .before .before .before .before .before .before .before .before .before .before .factory .ensures) (c .before .before .before .before .before .before .before .before .before .put-values .ensures) (c .before .before .before .before .before .put-values2 .ensures) (c .before .put-values3 .ensures)
+unfolding tableLength
+returns c =
+    let third = c .before .put-values3 in
+    let second = c .before .before .before .before .before .put-values2 in
+    let first = c .before .before .before .before .before .before .before .before .before .put-values in
+    let made = c .before .before .before .before .before .before .before .before .before .before .before .before .factory in
+    three-tables (made .ensures) (first .ensures) (second .ensures) (third .ensures)
 
 pub factory-tables-spec : {M : Type 1} → statement M
 factory-tables-spec =
