@@ -1,19 +1,14 @@
 -- The lengths of headers.
 -- Assumes nothing.
 use mathlib.Core.Path.{_≡_, refl, _∙_, ap}
-use mathlib.Core.Bool.{true, and-eq-true-iff}
 use mathlib.Core.List.{List}
 use Prim.Native.Nat.{ℕ, _+_, _≤_}
 use native.Mathlib.Omega.{arith}
-use borrow.Author.Tests.{leb-true, eqb-true}
-use lib.Dec.{leb}
 use lib.ListN.{length}
 use Rattle.mop_block.specs.Block.{first, rollLeft, rollRight}
 use Rattle.mop_block.proofs.Rolls.{length-rolled, length-left, length-right}
 use Rattle.mop_header.specs.Header.{Head, entries, headOf, blockStart, addressBytes, headerBytes, headerLength, markByte, withMark, remarked, rolledLeft, rolledRight, asReply, sentBack}
-use Rattle.mop_header.specs.ReadBack.{sized, InOrder}
 use Rattle.mop_header.specs.declared.Header.{Header}
-use Rattle.mop_header.specs.declared.Reader.{Reader}
 use Rattle.mop_header.specs.declared.Form.{Form}
 use Rattle.mop_header.specs.declared.Form.the-variants.{Standard, Extended}
 use Rattle.mop_header.proofs.Turns.{length-entries}
@@ -66,15 +61,6 @@ module _ (h : Head) where
 pub length-sent-back : (h : Head) → headerLength (sentBack h) ≡ headerLength h
 unfolding sentBack
 length-sent-back h = length-remarked (rolledRight h) ∙ length-rolled-right h
-
--- a block has at most 32 entries, and so a header in order at most 39 bytes
-pub sized-most : (form : Form) (n : ℕ) → sized form n ≡ true → n ≤ 32
-unfolding sized
-sized-most Standard n s = omega (arith, eqb-true n 4 s)
-sized-most (Extended m) n s = leb-true n 32 (and-eq-true-iff (leb 2 n) (leb n 32) .0 s .1)
-
-pub header-bound : (who : Reader) (h : Head) → InOrder who h → headerLength h ≤ 39
-header-bound who h o = omega (arith, length-header h, start-most (h .form), sized-most (h .form) (length (h .block)) (o .size))
 
 -- a header of the code has as many entries as it counts, whatever slice stands beside it
 module _ (h : Header) (slice : List ℕ) where

@@ -44,6 +44,9 @@ getD-tail : (l : List ℕ) (i : ℕ) → getD (drop 1 l) i 0 ≡ getD l (suc i) 
 getD-tail [] i = refl
 getD-tail (x ∷ l) i = refl
 
+pub all-entries : (b : List ℕ) → entries (length b) b ≡ b
+all-entries b = ap (entries (length b)) (sym (append-nil b)) ∙ own-entries b []
+
 pub entry-of : (n : ℕ) (l : List ℕ) (i : ℕ) → i < n → getD (entries n l) i 0 ≡ getD l i 0
 unfolding entries
 entry-of zero l i h = absurd (omega arith)

@@ -22,10 +22,6 @@ pub record Head : Type 0 where
 abbrev pub head : Function → ℕ → Form → List ℕ → Head
 head function control form block = record { function = function; control = control; form = form; block = block }
 
--- the most entries of a block
-abbrev pub maxEntries : ℕ
-maxEntries = 32
-
 -- so many entries from the front of a slice, with 00 where it has none
 unfoldable pub entries : ℕ → List ℕ → List ℕ
 entries zero slice = []

@@ -1,5 +1,5 @@
-// The header of a MoP telegram by value: read, rolled, marked and written. The entries of its block stay where they were read,
-// in a slice of the caller's that is lent beside it; a header is one only together with that slice.
+// The header of a MoP telegram by value: rolled, marked and written. The entries of its block stay where they are, in a slice
+// of the caller's that is lent beside it; a header is one only together with that slice.
 use refusal::Refusal;
 use refusal::WriteAnswer;
 ghost use mathlib.Core.Path.{_≡_};
@@ -7,29 +7,17 @@ ghost use Prim.Native.Nat.{ℕ, _+_, _-_, _≤_, _<_};
 ghost use mathlib.Core.List.{List};
 ghost use lib.ListN.{length, getD, drop};
 ghost use lib.Seq.{sets};
-ghost use lib.Dec.{eqb};
-ghost use Rattle.base.specs.Choice.{pick};
 ghost use Rattle.base.specs.Filling.{fitted};
 ghost use Rattle.refusal.specs.Writing.{fillingOf};
 ghost use Rattle.mop_block.specs.Block.{rolled, first, next};
-ghost use Rattle.mop_header.specs.declared.Function.the-variants.{Request, Reply};
-ghost use Rattle.mop_header.specs.declared.Form.the-variants.{Standard, Extended};
-ghost use Rattle.mop_header.specs.Header.{head, entries, headOf, beside, blockStart, functionByte, headerBytes, headerLength, telegramOf, isMark, markByte, markIs, withMark, remarked, rolledLeft, rolledRight, asReply};
-ghost use Rattle.mop_header.specs.Private.Judge.{judgedRead};
+ghost use Rattle.mop_header.specs.Header.{head, entries, headOf, beside, blockStart, functionByte, headerBytes, headerLength, telegramOf, markByte, markIs, withMark, markAgrees, remarked, rolledLeft, rolledRight, asReply};
 ghost use Rattle.mop_header.specs.Private.Places.{firstPlace};
-ghost use Rattle.mop_header.specs.Reading.{readingOf, allowed, goodFor, reading};
 
 // The mark's bytes, but for the first one that may be 00.
 pub const MARK: u8 = 0xEF;
 
 // The control byte of a new telegram.
 pub const NEW_CONTROL: u8 = 0xFF;
-
-// The most bytes of a telegram.
-pub const MAX_TELEGRAM: usize = 1024;
-
-// The most entries of a block.
-const MAX_ENTRIES: usize = 32;
 
 // A request or a reply.
 pub enum Function {
@@ -53,18 +41,6 @@ pub struct Header {
     turn: u8,
 }
 
-// Who reads a telegram.
-pub enum Reader {
-    Station,
-    Centre,
-}
-
-// What reading a header gives. The header is to stand beside the telegram from its block on.
-pub enum HeaderRead {
-    Fine(Header),
-    Fault(Refusal),
-}
-
 // The first mark byte of an extended header, by the block's first entry.
 fn mark_of(function: Function, first: u8) -> u8
     ensures { λ r. ⌜ r ≡ markByte function first ⌝ }
@@ -77,6 +53,16 @@ fn mark_of(function: Function, first: u8) -> u8
             }
             MARK
         }
+    }
+}
+
+// Whether a form has a given first mark byte.
+fn has_mark(form: Form, mark: u8) -> bool
+    ensures { λ r. ⌜ r ≡ markIs form mark ⌝ }
+{
+    match form {
+        Form::Standard => true,
+        Form::Extended(m) => m == mark,
     }
 }
 
@@ -237,6 +223,15 @@ impl Header {
         }
     }
 
+    // Whether the mark agrees with the block.
+    pub fn is_marked(self, block: &[u8]) -> bool
+        ensures { λ r. ⌜ r ≡ markAgrees (headOf self (now (block .entry))) ⌝ }
+    {
+        let function = self.function;
+        let form = self.form;
+        has_mark(form, mark_of(function, self.first(block)))
+    }
+
     // A new reply, in the form and with the block of the request.
     pub fn as_reply(self) -> Self
         ensures { λ r. ⌜ headOf r ≡ beside asReply (headOf self) ⌝ }
@@ -327,144 +322,4 @@ pub fn write(header: Header, block: &[u8], body: &[u8], out: &mut [u8]) -> Write
     write_header(header, block, &mut *out);
     places::put(body, &mut *out, n);
     WriteAnswer::Written(n + body.len())
-}
-
-// What a function byte that is allowed stands for.
-fn function_of(byte: u8) -> Function
-    ensures { λ r. ⌜ r ≡ pick (eqb byte 0xE0) Reply Request ⌝ }
-{
-    if byte == 0xE0 {
-        return Function::Reply;
-    }
-    Function::Request
-}
-
-// Whether a reader takes a function byte.
-fn is_allowed(reader: Reader, byte: u8) -> bool
-    ensures { λ r. ⌜ r ≡ allowed reader byte ⌝ }
-{
-    if byte == 0xE0 {
-        return true;
-    }
-    match reader {
-        Reader::Station => byte == 0x60,
-        Reader::Centre => false,
-    }
-}
-
-// Whether four entries are the mark.
-fn is_mark(function: Function, a: u8, b: u8, c: u8, d: u8) -> bool
-    ensures { λ r. ⌜ r ≡ isMark function a b c d ⌝ }
-{
-    if b != MARK {
-        return false;
-    }
-    if c != MARK {
-        return false;
-    }
-    if d != MARK {
-        return false;
-    }
-    if a == MARK {
-        return true;
-    }
-    match function {
-        Function::Request => false,
-        Function::Reply => a == 0,
-    }
-}
-
-// Whether a form has a given first mark byte.
-fn has_mark(form: Form, mark: u8) -> bool
-    ensures { λ r. ⌜ r ≡ markIs form mark ⌝ }
-{
-    match form {
-        Form::Standard => true,
-        Form::Extended(m) => m == mark,
-    }
-}
-
-// Whether a reader takes a block.
-fn good_for(reader: Reader, block: &[u8]) -> bool
-    ensures { λ r. ⌜ r ≡ goodFor reader (now (block .entry)) ⌝ }
-{
-    if !mop_block::good_block(block) {
-        return false;
-    }
-    match reader {
-        Reader::Station => true,
-        Reader::Centre => mop_block::names_somebody(block),
-    }
-}
-
-// A header of these parts: 5 for the block, then 6 for the mark.
-fn judge(reader: Reader, function: Function, control: u8, form: Form, block: &[u8]) -> HeaderRead
-    requires { ⌜ 0 < length (now block) ⌝ }
-    requires { ⌜ length (now block) ≤ 32 ⌝ }
-    ensures { λ r. ⌜ r ≡ judgedRead reader function control form (now (block .entry)) ⌝ }
-{
-    if !good_for(reader, block) {
-        return HeaderRead::Fault(Refusal::Block);
-    }
-    if !has_mark(form, mark_of(function, block[0])) {
-        return HeaderRead::Fault(Refusal::Mark);
-    }
-    let header = Header {
-        function,
-        control,
-        form,
-        count: block.len() as u8,
-        turn: 0,
-    };
-    HeaderRead::Fine(header)
-}
-
-// The form of a header, by whether its four entries are the mark.
-fn form_of(extended: bool, mark: u8) -> Form
-    ensures { λ r. ⌜ r ≡ pick extended (Extended mark) Standard ⌝ }
-{
-    if extended {
-        return Form::Extended(mark);
-    }
-    Form::Standard
-}
-
-// The header of a telegram, or why it is refused: 12, 2, 3, if extended 2, 4, 2, then 5, 6.
-pub fn read(reader: Reader, telegram: &[u8]) -> HeaderRead
-    ensures { λ r. ⌜ readingOf r (now (telegram .entry)) ≡ reading reader (now (telegram .entry)) ⌝ }
-{
-    if MAX_TELEGRAM < telegram.len() {
-        return HeaderRead::Fault(Refusal::TooLong);
-    }
-    if telegram.len() < 6 {
-        return HeaderRead::Fault(Refusal::HeaderCut);
-    }
-    let byte = telegram[0];
-    if !is_allowed(reader, byte) {
-        return HeaderRead::Fault(Refusal::Function);
-    }
-    let function = function_of(byte);
-    let extended = is_mark(function, telegram[2], telegram[3], telegram[4], telegram[5]);
-    let mut start: usize = 2;
-    let mut end: usize = 6;
-    if extended {
-        if telegram.len() < 7 {
-            return HeaderRead::Fault(Refusal::HeaderCut);
-        }
-        let entries = telegram[6];
-        let count = entries as usize;
-        if count < 2 {
-            return HeaderRead::Fault(Refusal::ExtendedCount);
-        }
-        if MAX_ENTRIES < count {
-            return HeaderRead::Fault(Refusal::ExtendedCount);
-        }
-        start = 7;
-        end = 7 + count;
-        if telegram.len() < end {
-            return HeaderRead::Fault(Refusal::HeaderCut);
-        }
-    }
-    let form = form_of(extended, telegram[2]);
-    judge(reader, function, telegram[1], form, &telegram[start..end])
 }

@@ -8,14 +8,14 @@ use lib.ListN.{length, getD, take, drop}
 use Rattle.base.specs.Choice.{pick}
 use Rattle.refusal.specs.Numbers.{numberOf}
 use Rattle.mop_block.specs.Block.{stations, goodBlock}
-use Rattle.mop_header.specs.Header.{Head, head, maxEntries, headOf, blockStart, functionByte, isMark, markAgrees}
+use Rattle.mop_header.specs.Header.{Head, head, headOf, blockStart, functionByte, isMark, markAgrees}
 use Rattle.mop_header.specs.declared.Function.{Function}
 use Rattle.mop_header.specs.declared.Function.the-variants.{Request, Reply}
 use Rattle.mop_header.specs.declared.Form.the-variants.{Standard, Extended}
-use Rattle.mop_header.specs.declared.Reader.{Reader}
-use Rattle.mop_header.specs.declared.Reader.the-variants.{Station, Centre}
-use Rattle.mop_header.specs.declared.HeaderRead.{HeaderRead}
-use Rattle.mop_header.specs.declared.HeaderRead.the-variants.{Fine, Fault}
+use Rattle.mop_reader.specs.declared.Reader.{Reader}
+use Rattle.mop_reader.specs.declared.Reader.the-variants.{Station, Centre}
+use Rattle.mop_reader.specs.declared.HeaderRead.{HeaderRead}
+use Rattle.mop_reader.specs.declared.HeaderRead.the-variants.{Fine, Fault}
 
 -- what reading gives: a header without a fault, or the number of a refusal
 pub data Reading : Type 0 where
@@ -51,6 +51,10 @@ standardReading who tg = judged who (head (functionAt tg) (getD tg 1 0) Standard
 -- the four entries are the mark, a count follows, and so many entries are the block: 2, 4 for the count, 2
 abbrev pub countAt : List ℕ → ℕ
 countAt tg = getD tg 6 0
+
+-- the most entries of a block
+abbrev pub maxEntries : ℕ
+maxEntries = 32
 
 abbrev pub goodCount : ℕ → Bool
 goodCount n = leb 2 n && leb n maxEntries

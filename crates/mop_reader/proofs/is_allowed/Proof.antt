@@ -1,10 +1,10 @@
 -- `is_allowed`: everybody takes replies, and a station requests too.
 -- Assumes nothing.
 use mathlib.Core.Path.{sym}
-use Rattle.mop_header.proofs.Readers.{reply-allowed, station-allows, centre-allows}
+use Rattle.mop_reader.proofs.Readers.{reply-allowed, station-allows, centre-allows}
 use borrow.Author.Needs.{needs}
-use Rattle.mop_header.proofs.is_allowed.Statement.{statement}
-use Rattle.mop_header.proofs.is_allowed.Tie as tie
+use Rattle.mop_reader.proofs.is_allowed.Statement.{statement}
+use Rattle.mop_reader.proofs.is_allowed.Tie as tie
 
 returns : tie.Need-returns
 returns c = sym (reply-allowed _ _ (c .if1 .taken))

@@ -7,12 +7,12 @@ use mathlib.Core.List.{List, [], _∷_}
 use lib.Dec.{eqb}
 use lib.ListN.{length}
 use Rattle.mop_block.specs.Block.{goodBlock}
 use Rattle.mop_header.specs.Header.{Head, functionByte, telegramOf, bodyOf, isMark, markAgrees}
-use Rattle.mop_header.specs.Reading.{sound, allowed, goodFor, goodCount, maxTelegram, reading}
+use Rattle.mop_reader.specs.Reading.{sound, allowed, goodFor, goodCount, maxTelegram, reading}
 use Rattle.mop_header.specs.declared.Function.{Function}
 use Rattle.mop_header.specs.declared.Form.{Form}
 use Rattle.mop_header.specs.declared.Form.the-variants.{Standard, Extended}
-use Rattle.mop_header.specs.declared.Reader.{Reader}
+use Rattle.mop_reader.specs.declared.Reader.{Reader}
 
 -- the lengths that a block has in a form
 unfoldable pub sized : Form → ℕ → Bool

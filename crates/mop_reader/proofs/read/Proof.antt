@@ -5,22 +5,20 @@ use mathlib.Core.Logic.{⊎-elim}
 use Prim.Native.Nat.{_+_, _-_}
 use native.Mathlib.Omega.{arith}
 use lib.ListN.{getD, take, drop, take-append-drop}
-use Rattle.mop_header.specs.declared.HeaderRead.{HeaderRead}
-use Rattle.mop_header.specs.declared.Form.the-variants.{Standard, Extended}
 use borrow.Author.Needs.{needs}
 use borrow.Author.Tests.{not-true}
 use Rattle.base.specs.Choice.{pick}
-use Rattle.mop_header.specs.Reading.{functionAt, readingOf, reading, extendedReading, standardReading}
-use Rattle.mop_header.proofs.Steps.{too-long, cut, not-allowed, by-form, count-cut, count-small, count-large, block-cut, behind-mark, without-mark, read-judged}
-use Rattle.mop_header.proofs.read.Statement.{statement}
-use Rattle.mop_header.proofs.read.Tie as tie
-use Rattle.mop_header.proofs.read.Reads as reads
-use Rattle.mop_header.proofs.read.Lts as lts
-use Rattle.mop_header.proofs.is_allowed.Reads as is-allowed-reads
-use Rattle.mop_header.proofs.function_of.Reads as function-of-reads
-use Rattle.mop_header.proofs.is_mark.Reads as is-mark-reads
-use Rattle.mop_header.proofs.form_of.Reads as form-of-reads
-use Rattle.mop_header.proofs.judge.Reads as judge-reads
+use Rattle.mop_reader.specs.Reading.{functionAt, readingOf, reading, extendedReading, standardReading}
+use Rattle.mop_reader.proofs.Steps.{too-long, cut, not-allowed, by-form, count-cut, count-small, count-large, block-cut, behind-mark, without-mark}
+use Rattle.mop_reader.proofs.read.Statement.{statement}
+use Rattle.mop_reader.proofs.read.Tie as tie
+use Rattle.mop_reader.proofs.read.Reads as reads
+use Rattle.mop_reader.proofs.read.Lts as lts
+use Rattle.mop_reader.proofs.is_allowed.Reads as is-allowed-reads
+use Rattle.mop_reader.proofs.function_of.Reads as function-of-reads
+use Rattle.mop_reader.proofs.is_mark.Reads as is-mark-reads
+use Rattle.mop_reader.proofs.form_of.Reads as form-of-reads
+use Rattle.mop_reader.proofs.judge.Reads as judge-reads
 
 -- the three refusals and the form are behind: by whether the four entries are the mark
 abbrev Marked : Type 0
@@ -133,12 +131,10 @@ returns-8 c =
     ⊎-elim
     (λ w.
     let end : (7 + getD tg 6 0) - 7 ≡ getD tg 6 0 = omega arith in
-    ap (λ (r : HeaderRead). readingOf r tg) (rw (q .form-of .ensures, w .0 .taken, w .6, w .7, g .function-of .ensures, end) at (c .judge .ensures))
-    ∙ read-judged who (functionAt tg) (getD tg 1 0) (Extended (getD tg 2 0)) (take (getD tg 6 0) (drop 7 tg)) tg (drop (getD tg 6 0) (drop 7 tg)) (sym (take-append-drop (getD tg 6 0) (drop 7 tg)))
+    (rw (q .form-of .ensures, w .0 .taken, w .6, w .7, g .function-of .ensures, end) at (c .judge .ensures tg (drop (getD tg 6 0) (drop 7 tg)))) (sym (take-append-drop (getD tg 6 0) (drop 7 tg)))
     ∙ sym (form ∙ rw (w .0 .taken) (behind-mark _ tg (w .1 .left) (w .3 .left) (w .4 .left) (w .5 .left))))
     (λ w.
-    ap (λ (r : HeaderRead). readingOf r tg) (rw (q .form-of .ensures, w .0 .left, w .1, w .2, g .function-of .ensures) at (c .judge .ensures))
-    ∙ read-judged who (functionAt tg) (getD tg 1 0) Standard (take 4 (drop 2 tg)) tg (drop 4 (drop 2 tg)) (sym (take-append-drop 4 (drop 2 tg)))
+    (rw (q .form-of .ensures, w .0 .left, w .1, w .2, g .function-of .ensures) at (c .judge .ensures tg (drop 4 (drop 2 tg)))) (sym (take-append-drop 4 (drop 2 tg)))
     ∙ sym (form ∙ rw (w .0 .left) (without-mark _ tg)))
     (j .if4 .came)
 

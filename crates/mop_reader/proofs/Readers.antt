@@ -9,12 +9,12 @@ use lib.Dec.{eqb, ltb}
 use lib.ListN.{length, getD}
 use Rattle.base.specs.Choice.{pick}
 use Rattle.mop_block.specs.Block.{stations, goodBlock}
 use Rattle.mop_header.specs.Header.{functionByte}
-use Rattle.mop_header.specs.Reading.{allowed, functionAt, goodFor}
+use Rattle.mop_reader.specs.Reading.{allowed, functionAt, goodFor}
 use Rattle.mop_header.specs.declared.Function.{Function}
 use Rattle.mop_header.specs.declared.Function.the-variants.{Request, Reply}
-use Rattle.mop_header.specs.declared.Reader.{Reader}
-use Rattle.mop_header.specs.declared.Reader.the-variants.{Station, Centre}
+use Rattle.mop_reader.specs.declared.Reader.{Reader}
+use Rattle.mop_reader.specs.declared.Reader.the-variants.{Station, Centre}
 
 pub reply-allowed : (who : Reader) (f : ℕ) → f ≡ 0xE0 → allowed who f ≡ true
 unfolding allowed

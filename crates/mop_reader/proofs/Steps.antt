@@ -2,25 +2,31 @@
 -- Assumes nothing.
 use mathlib.Core.Path.{_≡_, refl, sym, _∙_, ap}
 use mathlib.Core.Bool.{Bool, true, false, not, and-false}
-use mathlib.Core.List.{List, _++_}
+use mathlib.Core.List.{List, [], _++_}
 use Prim.Native.Nat.{ℕ, _+_, _≤_, _<_}
 use borrow.Author.Tests.{lt-ltb, le-ltb, le-leb, lt-leb, not-false}
 use lib.Dec.{eqb, leb}
 use lib.ListN.{length, getD, take, drop}
 use Rattle.base.specs.Choice.{pick}
-use Rattle.mop_header.specs.Header.{Head, head, isMark, markAgrees, blockStart}
-use Rattle.mop_header.specs.Private.Judge.{judgedRead}
-use Rattle.mop_header.specs.Reading.{readingOf, sound, faulty, allowed, functionAt, goodFor, judged, standardReading, countAt, extendedReading, maxTelegram, reading}
+use Rattle.mop_header.specs.Header.{Head, head, headOf, entries, isMark, markAgrees, blockStart}
+use Rattle.mop_reader.specs.Reading.{sound, faulty, allowed, functionAt, goodFor, judged, standardReading, countAt, extendedReading, maxTelegram, reading}
 use Rattle.mop_header.specs.declared.Form.{Form}
-use Rattle.mop_header.specs.declared.HeaderRead.the-variants.{Fine, Fault}
-use Rattle.refusal.specs.declared.Refusal.the-variants.{Block, Mark}
-use Rattle.mop_header.proofs.Turns.{rolled-zero, own-entries}
+use Rattle.mop_header.specs.declared.Header.{Header}
+use Rattle.mop_header.proofs.Turns.{own-entries, all-entries}
 use Rattle.mop_header.specs.declared.Form.the-variants.{Standard, Extended}
 use Rattle.mop_header.specs.declared.Function.{Function}
 use Rattle.mop_header.specs.declared.Function.the-variants.{Request, Reply}
-use Rattle.mop_header.specs.declared.Reader.{Reader}
+use Rattle.mop_reader.specs.declared.Reader.{Reader}
 
 -- the block, then the mark
+pub judged-block : (who : Reader) (h : Head) → goodFor who (h .block) ≡ false → judged who h ≡ faulty 5
+unfolding judged
+judged-block who h bad = rw bad
+
+pub judged-mark : (who : Reader) (h : Head) → goodFor who (h .block) ≡ true → markAgrees h ≡ false → judged who h ≡ faulty 6
+unfolding judged
+judged-mark who h good bad = rw (good, bad)
+
 pub judged-sound : (who : Reader) (h : Head) → goodFor who (h .block) ≡ true → markAgrees h ≡ true → judged who h ≡ sound h
 unfolding judged
 judged-sound who h good mark = rw (good, mark)
@@ -89,16 +95,14 @@ pub without-mark : (who : Reader) (tg : List ℕ) → standardReading who tg ≡
 unfolding standardReading
 without-mark who tg = refl
 
--- what `judge` gives, beside the telegram that the block stands in
-read-by : (who : Reader) (f : Function) (k : ℕ) (form : Form) (b tg rest : List ℕ) → drop (blockStart form) tg ≡ b ++ rest →
-    (good mark : Bool) → goodFor who b ≡ good → markAgrees (head f k form b) ≡ mark →
-    readingOf (pick (not good) (Fault Block) (pick (not mark) (Fault Mark) (Fine (record { function = f; control = k; form = form; count = length b; turn = 0 })))) tg
-    ≡ pick (not good) (faulty 5) (pick (not mark) (faulty 6) (sound (head f k form b)))
-read-by who f k form b tg rest e false mark g m = refl
-read-by who f k form b tg rest e true false g m = refl
-read-by who f k form b tg rest e true true g m = ap (λ (l : List ℕ). sound (head f k form l)) (rolled-zero _ ∙ rw e (own-entries b rest))
+-- a header as it is made, of as many entries as its block has
+module _ (h : Header) (f : Function) (k : ℕ) (form : Form) (b : List ℕ)
+    (made : (slice : List ℕ) → headOf h slice ≡ head f k form (entries (length b) slice)) where
+  pub made-beside : headOf h b ≡ head f k form b
+  made-beside = made b ∙ ap (head f k form) (all-entries b)
 
-pub read-judged : (who : Reader) (f : Function) (k : ℕ) (form : Form) (b tg rest : List ℕ) → drop (blockStart form) tg ≡ b ++ rest →
-    readingOf (judgedRead who f k form b) tg ≡ judged who (head f k form b)
-unfolding judgedRead judged
-read-judged who f k form b tg rest e = read-by who f k form b tg rest e (goodFor who b) (markAgrees (head f k form b)) refl refl
+  -- beside the telegram that the block stands in
+  pub made-read : (tg rest : List ℕ) → drop (blockStart form) tg ≡ b ++ rest → headOf h (drop (blockStart (h .form)) tg) ≡ head f k form b
+  made-read tg rest e =
+      let same : h .form ≡ form = ap (λ (x : Head). x .form) (made []) in
+      ap (λ (m : Form). headOf h (drop (blockStart m) tg)) same ∙ ap (headOf h) e ∙ made (b ++ rest) ∙ ap (head f k form) (own-entries b rest)

@@ -1,7 +1,7 @@
 -- `form_of`: by the test.
 -- Assumes nothing.
-use Rattle.mop_header.proofs.form_of.Statement.{statement}
-use Rattle.mop_header.proofs.form_of.Tie as tie
+use Rattle.mop_reader.proofs.form_of.Statement.{statement}
+use Rattle.mop_reader.proofs.form_of.Tie as tie
 
 returns : tie.Need-returns
 returns c = rw (c .if1 .taken)

@@ -2,10 +2,10 @@
 -- Assumes nothing.
 use mathlib.Core.Path.{sym, _∙_}
 use native.Mathlib.Omega.{arith}
-use Rattle.mop_header.proofs.Marks.{second-not-mark, third-not-mark, fourth-not-mark, by-first, begins, begins-request, begins-reply}
+use Rattle.mop_reader.proofs.Marks.{second-not-mark, third-not-mark, fourth-not-mark, by-first, begins, begins-request, begins-reply}
 use borrow.Author.Needs.{needs}
-use Rattle.mop_header.proofs.is_mark.Statement.{statement}
-use Rattle.mop_header.proofs.is_mark.Tie as tie
+use Rattle.mop_reader.proofs.is_mark.Statement.{statement}
+use Rattle.mop_reader.proofs.is_mark.Tie as tie
 
 returns : tie.Need-returns
 returns c = sym (second-not-mark _ _ _ _ _ (omega arith))

@@ -1,8 +1,8 @@
 -- `function_of`: by the byte.
 -- Assumes nothing.
 use borrow.Author.Tests.{eq-eqb, ne-eqb}
-use Rattle.mop_header.proofs.function_of.Statement.{statement}
-use Rattle.mop_header.proofs.function_of.Tie as tie
+use Rattle.mop_reader.proofs.function_of.Statement.{statement}
+use Rattle.mop_reader.proofs.function_of.Tie as tie
 
 returns : tie.Need-returns
 returns c = simp (eq-eqb _ _ (c .if1 .taken))

@@ -12,17 +12,17 @@ use lib.Seq.{drop-cons, drop-append-seam, take-at, length-take-le}
 use Rattle.base.specs.Choice.{pick}
 use Rattle.mop_block.specs.Block.{goodBlock, first}
 use Rattle.mop_block.proofs.Counts.{not-twice}
 use Rattle.mop_header.specs.Header.{Head, head, functionByte, addressBytes, headerBytes, headerLength, telegramOf, bodyOf, isMark, markByte, markIs, markAgrees}
-use Rattle.mop_header.specs.Reading.{Reading, sound, faulty, allowed, functionAt, goodFor, judged, standardReading, countAt, extendedReading, maxTelegram, reading}
-use Rattle.mop_header.specs.ReadBack.{sized, InOrder, ReadsBack, ReadWell, IsWritten, NoMark}
+use Rattle.mop_reader.specs.Reading.{Reading, sound, faulty, allowed, functionAt, goodFor, judged, standardReading, countAt, extendedReading, maxTelegram, reading}
+use Rattle.mop_reader.specs.ReadBack.{sized, InOrder, ReadsBack, ReadWell, IsWritten, NoMark}
 use Rattle.mop_header.specs.declared.Function.{Function}
 use Rattle.mop_header.specs.declared.Form.{Form}
 use Rattle.mop_header.specs.declared.Form.the-variants.{Standard, Extended}
-use Rattle.mop_header.specs.declared.Reader.{Reader}
-use Rattle.mop_header.proofs.Marks.{mark-entries, own-mark}
-use Rattle.mop_header.proofs.Readers.{function-at, byte-at, taken-good}
-use Rattle.mop_header.proofs.Steps.{judged-sound, as-extended, as-standard, behind-mark}
+use Rattle.mop_reader.specs.declared.Reader.{Reader}
+use Rattle.mop_reader.proofs.Marks.{mark-entries, own-mark}
+use Rattle.mop_reader.proofs.Readers.{function-at, byte-at, taken-good}
+use Rattle.mop_reader.proofs.Steps.{judged-sound, as-extended, as-standard, behind-mark}
 use Rattle.mop_header.proofs.Writing.{length-telegram}
 
 -- the entries of a mark are a station twice
 no-mark-by : (f : Function) (a b c d : ℕ) (t : Bool) → isMark f a b c d ≡ t → goodBlock (a ∷ b ∷ c ∷ d ∷ []) ≡ true → t ≡ false

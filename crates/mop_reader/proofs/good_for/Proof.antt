@@ -2,10 +2,10 @@
 -- Assumes nothing.
 use mathlib.Core.Path.{sym, _∙_}
 use borrow.Author.Tests.{not-true, not-false}
-use Rattle.mop_header.proofs.Readers.{none-takes, station-takes, centre-takes}
+use Rattle.mop_reader.proofs.Readers.{none-takes, station-takes, centre-takes}
 use borrow.Author.Needs.{needs}
-use Rattle.mop_header.proofs.good_for.Statement.{statement}
-use Rattle.mop_header.proofs.good_for.Tie as tie
+use Rattle.mop_reader.proofs.good_for.Statement.{statement}
+use Rattle.mop_reader.proofs.good_for.Tie as tie
 
 good-block-requires : tie.Need-good-block-requires
 good-block-requires c κs = search needs
