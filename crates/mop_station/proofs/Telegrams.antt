@@ -1,28 +1,15 @@
 -- A telegram at a station: refused for its own address, its table or its header; or the step, and what is sent.
 -- Assumes nothing.
 use mathlib.Core.Path.{_≡_}
-use mathlib.Core.Bool.{true, false, and-eq-true-iff}
+use mathlib.Core.Bool.{true, false}
 use mathlib.Core.List.{List}
 use Prim.Native.Nat.{ℕ}
-use borrow.Author.Tests.{eq-eqb, eqb-true}
-use lib.Dec.{eqb}
 use lib.ListN.{length}
-use Rattle.mop_registers.specs.Rows.{tableLength}
-use Rattle.mop_block.specs.Block.{isAddress}
 use Rattle.mop_header.specs.Header.{Head, bodyOf}
-use Rattle.mop_header.specs.Reading.{Reading, sound, faulty, reading}
-use Rattle.mop_header.specs.declared.Reader.the-variants.{Station}
-use Rattle.mop_station.specs.Step.{isStation, stepping}
+use Rattle.mop_reader.specs.Reading.{Reading, sound, faulty, reading}
+use Rattle.mop_reader.specs.declared.Reader.the-variants.{Station}
+use Rattle.mop_step.specs.Step.{isStation, stepping}
 use Rattle.mop_station.specs.Station.{refuses, leaving, taking, hearing, handling}
-
--- an own address and a table of the right length
-pub is-station : (own : ℕ) (t : List ℕ) → isAddress own ≡ true → length t ≡ tableLength → isStation own t ≡ true
-unfolding isStation
-is-station own t a l = rw (a, eq-eqb (length t) tableLength l)
-
-pub station-table : (own : ℕ) (t : List ℕ) → isStation own t ≡ true → length t ≡ tableLength
-unfolding isStation
-station-table own t e = eqb-true (length t) tableLength (and-eq-true-iff (isAddress own) (eqb (length t) tableLength) .0 e .1)
 
 module _ (own : ℕ) (t telegram out : List ℕ) where
   pub not-set-up : isStation own t ≡ false → handling own t telegram out ≡ leaving (refuses 1) t out

@@ -1,4 +1,2 @@
-pub mod Body
-pub mod Step
 pub mod Station
 pub mod Safety

@@ -8,10 +8,10 @@ use Rattle.base.specs.Choice.{pick}
 use Rattle.base.specs.Places.{placed}
 use Rattle.refusal.specs.Numbers.{numberOf}
 use Rattle.mop_header.specs.Header.{telegramOf, bodyOf}
-use Rattle.mop_header.specs.Reading.{Reading, sound, faulty, reading}
-use Rattle.mop_header.specs.declared.Reader.the-variants.{Station}
-use Rattle.mop_station.specs.Step.{Stepped, relays, answers, Step, isStation, stepping}
-use Rattle.mop_station.specs.Step as step
+use Rattle.mop_reader.specs.Reading.{Reading, sound, faulty, reading}
+use Rattle.mop_reader.specs.declared.Reader.the-variants.{Station}
+use Rattle.mop_step.specs.Step.{Stepped, relays, answers, Step, isStation, stepping}
+use Rattle.mop_step.specs.Step as step
 use Rattle.mop_station.specs.declared.StationAnswer.{StationAnswer}
 use Rattle.mop_station.specs.declared.StationAnswer.the-variants.{Sent, NotMine, Refused}
 

@@ -2,10 +2,10 @@
 -- Assumes nothing.
 use Rattle.mop_station.proofs.Telegrams.{not-set-up, set-up}
 use Rattle.mop_station.specs.Station.{hearing}
-use Rattle.mop_header.proofs.ReadBack.{sound-room}
-use Rattle.mop_header.specs.declared.Reader.the-variants.{Station}
-use Rattle.mop_header.specs.declared.HeaderRead.{HeaderRead}
-use Rattle.mop_header.specs.Reading.{readingOf}
+use Rattle.mop_reader.proofs.ReadBack.{sound-room}
+use Rattle.mop_reader.specs.declared.Reader.the-variants.{Station}
+use Rattle.mop_reader.specs.declared.HeaderRead.{HeaderRead}
+use Rattle.mop_reader.specs.Reading.{readingOf}
 use borrow.Author.Tests.{not-true, not-false}
 use mathlib.Core.Path.{sym, _∙_, ap}
 use borrow.Author.Needs.{needs}

@@ -1,9 +1,9 @@
 -- `take_telegram`: the step, and then what it sends.
 -- Assumes nothing.
-use Rattle.mop_station.proofs.Rooms.{Fits, answer-places, made-as, fits-as}
+use Rattle.mop_step.proofs.Rooms.{Fits, answer-places, made-as, fits-as}
 use Rattle.mop_station.specs.Station.{sendingBy, taking}
-use Rattle.mop_station.specs.Step.{Step, StepCall, stepping, stepCallOf}
-use Rattle.mop_station.specs.declared.StationStep.{StationStep}
+use Rattle.mop_step.specs.Step.{Step, StepCall, stepping, stepCallOf}
+use Rattle.mop_step.specs.declared.StationStep.{StationStep}
 use Rattle.mop_header.specs.Header.{headOf}
 use native.Mathlib.Omega.{arith}
 use native.Mathlib.Nat.{sub-zero}
@@ -14,7 +14,7 @@ use Rattle.mop_station.proofs.take_telegram.Statement.{statement}
 use Rattle.mop_station.proofs.take_telegram.Tie as tie
 use Rattle.mop_station.proofs.take_telegram.Reads as reads
 use Rattle.mop_station.proofs.take_telegram.Lts as lts
-use Rattle.mop_station.proofs.step.Reads as step-reads
+use Rattle.mop_step.proofs.step.Reads as step-reads
 use Rattle.mop_station.proofs.send.Reads as send-reads
 
 -- the call of the step, and what it says of the step

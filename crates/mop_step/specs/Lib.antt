@@ -1,0 +1,4 @@
+pub mod Body
+pub mod Step
+pub mod Safety
+pub mod Private
