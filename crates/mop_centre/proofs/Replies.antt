@@ -10,18 +10,17 @@ use lib.Dec.{eqb}
 use lib.ListN.{length, take, drop, length-drop, drop-of-length-le, List·getD-eq-default}
 use lib.Seq.{drop-drop}
 use Rattle.base.specs.Choice.{pick}
-use Rattle.base.proofs.Places.{take-rest}
+use Rattle.base.proofs.Places.{take-rest, rest-from}
 use Rattle.mop_block.specs.Block.{stations, first}
 use Rattle.mop_header.specs.Header.{Head, headOf, blockStart, headerLength, bodyOf}
 use Rattle.mop_block.proofs.Stations.{named-bound}
-use Rattle.mop_header.specs.Reading.{Reading, sound, faulty, reading}
+use Rattle.mop_reader.specs.Reading.{Reading, sound, faulty, reading}
 use Rattle.mop_header.specs.declared.Header.{Header}
-use Rattle.mop_header.specs.declared.Form.{Form}
-use Rattle.mop_header.specs.declared.Form.the-variants.{Standard, Extended}
-use Rattle.mop_header.specs.declared.Reader.the-variants.{Centre}
-use Rattle.mop_header.proofs.Lengths.{start-most, length-header, sized-most, counted}
-use Rattle.mop_header.proofs.Readers.{taken-good}
-use Rattle.mop_header.proofs.ReadBack.{is-written, sound-room}
+use Rattle.mop_reader.specs.declared.Reader.the-variants.{Centre}
+use Rattle.mop_header.proofs.Lengths.{start-most, length-header, counted}
+use Rattle.mop_reader.proofs.Sizes.{sized-most}
+use Rattle.mop_reader.proofs.Readers.{taken-good}
+use Rattle.mop_reader.proofs.ReadBack.{is-written, sound-room}
 use Rattle.mop_body.specs.Body.{readCount}
 use Rattle.mop_centre.specs.Request.{maxRoute}
 use Rattle.mop_centre.specs.Reply.{Receipt, accepted, notMine, refuses, judgedReply, receiving, replyReceipt, Answer, ReplyReading, at, readOut, unread, opened, openedBy, replyReading}
@@ -106,14 +105,11 @@ block-room header telegram read =
     let h = headOf header (drop (blockStart (header .form)) telegram) in
     omega (arith, sound-room Centre telegram h read, length-header h)
 
--- the block and the body, where they stand in the telegram
+-- the body, where it stands in the telegram
 module _ (telegram : List ℕ) where
-  pub rest-from : {k n : ℕ} → k ≡ n → take (length telegram - k) (drop k telegram) ≡ drop n telegram
-  rest-from {k} e = take-rest k telegram ∙ ap (λ (n : ℕ). drop n telegram) e
-
   pub body-from : (h : Head) {n : ℕ} → n ≡ headerLength h → take (length telegram - n) (drop n telegram) ≡ bodyOf h telegram
   unfolding bodyOf
-  body-from h e = rest-from e
+  body-from h e = rest-from telegram e
 
 pub route-room : (telegram : List ℕ) {h : Head} → reading Centre telegram ≡ sound h → length (stations (h .block)) ≤ maxRoute
 route-room telegram {h} read =
@@ -205,7 +201,7 @@ module _ (telegram : List ℕ) {told : Answer} (is : told ≡ replyReading teleg
     pub stretch-bytes : take (length telegram - told .place) (drop (told .place) telegram) ≡ replyReading telegram .values
     unfolding readOut bodyOf
     stretch-bytes =
-        take-rest (told .place) telegram ∙ ap (λ (n : ℕ). drop n telegram) (stretch .2) ∙ sym (drop-drop 3 (headerLength (stretch .0)) telegram)
+        rest-from telegram (stretch .2) ∙ sym (drop-drop 3 (headerLength (stretch .0)) telegram)
         ∙ sym (ap (λ (r : ReplyReading). r .values) (reply-read telegram (stretch .1)))
 
     pub stretch-place : replyReading telegram .begins ≡ at (told .place)

@@ -16,7 +16,8 @@ use Rattle.base.proofs.Places.{sets-placed}
 use Rattle.mop_block.specs.Block.{distinctAddresses, stations}
 use Rattle.mop_block.specs.Zipper.{zeros}
 use Rattle.mop_block.proofs.Scan.{zero-next, station-next, stations-end}
-use Rattle.mop_header.specs.Header.{head, entries, maxEntries, newControl}
+use Rattle.mop_header.specs.Header.{head, entries, newControl}
+use Rattle.mop_reader.specs.Reading.{maxEntries}
 use Rattle.mop_header.specs.declared.Function.the-variants.{Request}
 use Rattle.mop_header.specs.declared.Form.the-variants.{Standard, Extended}
 use Rattle.mop_header.proofs.Turns.{entries-take}

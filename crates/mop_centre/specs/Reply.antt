@@ -12,8 +12,8 @@ use Rattle.refusal.specs.Numbers.{numberOf}
 use Rattle.mop_block.specs.Block.{stations, first}
 use Rattle.mop_block.specs.Zipper.{zeros}
 use Rattle.mop_header.specs.Header.{Head, headerLength, bodyOf}
-use Rattle.mop_header.specs.Reading.{Reading, sound, faulty, reading}
-use Rattle.mop_header.specs.declared.Reader.the-variants.{Centre}
+use Rattle.mop_reader.specs.Reading.{Reading, sound, faulty, reading}
+use Rattle.mop_reader.specs.declared.Reader.the-variants.{Centre}
 use Rattle.mop_body.specs.Body.{readStart, readCount, valueBytes}
 use Rattle.mop_centre.specs.Request.{maxRoute}
 use Rattle.mop_centre.specs.declared.ReplyVerdict.{ReplyVerdict}

@@ -1,12 +1,13 @@
 -- The centre's request: the route that it goes by, and its telegram.
 -- Assumes nothing.
-use Prim.Native.Nat.{ℕ, _-_}
+use Prim.Native.Nat.{ℕ, _-_, _≤_}
+use mathlib.Core.Path.{_≡_}
 use mathlib.Core.Bool.{Bool, not, _&&_, _||_}
 use mathlib.Core.List.{List, [], _∷_, _++_}
 use lib.Dec.{ltb, leb}
 use lib.ListN.{length}
 use Rattle.base.specs.Choice.{pick}
-use Rattle.base.specs.Filling.{Filling, denied, fitted}
+use Rattle.base.specs.Filling.{filled, Filling, denied, fitted}
 use Rattle.mop_block.specs.Block.{distinctAddresses}
 use Rattle.mop_block.specs.Zipper.{zeros}
 use Rattle.mop_header.specs.Header.{Head, head, telegramOf, newControl}
@@ -45,3 +46,13 @@ requesting route rStart rCount wStart values out =
     pick (not (goodRoute route)) (denied 5 out)
     (pick (ltb maxRun rCount || ltb maxRun (length values)) (denied 12 out)
     (fitted (requestTelegram route rStart rCount wStart values) out))
+
+-- the most bytes of a request: a header of 39, 6, and 510 for 255 values
+abbrev pub maxRequest : ℕ
+maxRequest = 555
+
+-- no request that is written is longer
+abbrev pub RequestBound : Type 0
+RequestBound =
+    (route : List ℕ) (rStart rCount wStart : ℕ) (values out : List ℕ) (n : ℕ) →
+    requesting route rStart rCount wStart values out .given ≡ filled n → n ≤ maxRequest

@@ -2,10 +2,10 @@
 use mop_header::Form;
 use mop_header::Function;
 use mop_header::Header;
-use mop_header::HeaderRead;
 use mop_header::MARK;
 use mop_header::NEW_CONTROL;
-use mop_header::Reader;
+use mop_reader::HeaderRead;
+use mop_reader::Reader;
 use refusal::Refusal;
 use refusal::WriteAnswer;
 ghost use mathlib.Core.Path.{_≡_};
@@ -15,9 +15,9 @@ ghost use lib.ListN.{length, take, drop};
 ghost use Rattle.refusal.specs.Writing.{fillingOf};
 ghost use Rattle.mop_block.specs.Block.{stations};
 ghost use Rattle.mop_block.specs.Zipper.{zeros};
-ghost use Rattle.mop_header.specs.Header.{headOf, blockStart, maxEntries};
-ghost use Rattle.mop_header.specs.Reading.{sound, reading};
-ghost use Rattle.mop_header.specs.declared.Reader.the-variants.{Centre};
+ghost use Rattle.mop_header.specs.Header.{headOf, blockStart};
+ghost use Rattle.mop_reader.specs.Reading.{sound, maxEntries, reading};
+ghost use Rattle.mop_reader.specs.declared.Reader.the-variants.{Centre};
 ghost use Rattle.mop_body.specs.Body.{readCount, requestBody};
 ghost use Rattle.mop_centre.specs.Request.{maxRoute, maxRun, goodRoute, requestHead, requesting};
 ghost use Rattle.mop_centre.specs.Reply.{receiptOf, answerOf, routePlaces, readOut, unread, replyReading, Begins};
@@ -218,7 +218,7 @@ fn receive(header: Header, telegram: &[u8]) -> ReplyRead
 pub fn read_reply(telegram: &[u8]) -> ReplyRead
     ensures { λ r. ⌜ answerOf r ≡ replyReading (now (telegram .entry)) .answer ⌝ }
 {
-    match mop_header::read(Reader::Centre, telegram) {
+    match mop_reader::read(Reader::Centre, telegram) {
         HeaderRead::Fault(r) => unread(ReplyVerdict::Refused(r)),
         HeaderRead::Fine(header) => receive(header, telegram),
     }

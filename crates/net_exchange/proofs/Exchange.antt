@@ -17,22 +17,24 @@ use Rattle.mop_block.proofs.Rolls.{length-right}
 use Rattle.mop_block.proofs.Stations.{good-length, stations-returned}
 use Rattle.mop_block.proofs.Zipper.{returned-is-good, right-returns}
 use Rattle.mop_header.specs.Header.{Head, head, headerLength, telegramOf, bodyOf, markByte, remarked, newControl}
-use Rattle.mop_header.specs.Reading.{allowed, maxTelegram}
-use Rattle.mop_header.specs.ReadBack.{sized, InOrder}
+use Rattle.mop_reader.specs.Reading.{allowed, maxTelegram}
+use Rattle.mop_reader.specs.ReadBack.{sized, InOrder}
 use Rattle.mop_header.specs.declared.Function.the-variants.{Request, Reply}
-use Rattle.mop_header.specs.declared.Reader.the-variants.{Station, Centre}
-use Rattle.mop_header.proofs.Lengths.{length-remarked, headerRoom, length-header, header-bound}
+use Rattle.mop_reader.specs.declared.Reader.the-variants.{Station, Centre}
+use Rattle.mop_header.proofs.Lengths.{length-remarked, headerRoom, length-header}
+use Rattle.mop_reader.proofs.Sizes.{header-bound}
 use Rattle.mop_header.proofs.Marks.{remarked-agrees, remarked-block}
-use Rattle.mop_header.proofs.Readers.{taken-good, centre-takes}
-use Rattle.mop_header.proofs.ReadBack.{body-behind, is-written}
+use Rattle.mop_reader.proofs.Readers.{taken-good, centre-takes}
+use Rattle.mop_reader.proofs.ReadBack.{body-behind, is-written}
 use Rattle.mop_header.proofs.Writing.{length-telegram}
 use Rattle.mop_body.specs.Body.{readStart, readCount, writeStart, writeCount, valuesOf, requestBody}
-use Rattle.mop_station.specs.Body.{accepts, judgedRuns, judgedBody, replyBody}
-use Rattle.mop_station.proofs.Bodies.{right-length}
-use Rattle.mop_station.proofs.Answers.{reply-bound}
+use Rattle.mop_step.specs.Body.{accepts, judgedRuns, judgedBody, replyBody}
+use Rattle.mop_step.proofs.Bodies.{right-length}
+use Rattle.mop_step.proofs.Answers.{reply-bound}
 use Rattle.mop_centre.specs.Request.{requestHead, requestTelegram, requesting}
 use Rattle.mop_centre.specs.Reply.{ReplyReading, acceptedReading, replyReceipt, replyReading}
 use Rattle.mop_centre.proofs.Routes.{Route}
+use Rattle.mop_centre.proofs.Requests.{wrote}
 use Rattle.mop_centre.proofs.Replies.{receipt-read}
 use Rattle.net_journey.specs.Net.{Net, goodNet, isThere, allThere, upToMissing, tableAt, withTable}
 use Rattle.net_journey.specs.Journey.{Ending, Course, Journey}
@@ -43,7 +45,7 @@ use Rattle.net_journey.proofs.Telegrams.{sized-with}
 use Rattle.net_journey.proofs.Whole.{every-journey, byte-for-byte}
 use Rattle.net_exchange.specs.ReadBack.{routeEnd, ReadsAs}
 use Rattle.net_exchange.specs.Exchange.{verdicts, answerFrom, Answered, NoAnswer, Exchange, EveryExchange}
-use Rattle.net_exchange.proofs.Requests.{Shape, shape, route-full, route-once, wrote, request-reads-back}
+use Rattle.net_exchange.proofs.Requests.{Shape, shape, route-full, route-once, request-reads-back}
 use Rattle.net_exchange.proofs.Replies.{reply-reads-back}
 use Rattle.net_exchange.proofs.Rolls.{last-reply}
 use Rattle.net_exchange.proofs.Heard.{requests-heard, journey-heard}

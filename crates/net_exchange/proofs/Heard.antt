@@ -11,17 +11,17 @@ use Rattle.mop_block.specs.Block.{stations, first}
 use Rattle.mop_block.specs.Zipper.{Full, nil, cons}
 use Rattle.mop_block.proofs.Stations.{full-reverse}
 use Rattle.mop_header.specs.Header.{Head, functionByte, headerBytes, telegramOf, bodyOf}
-use Rattle.mop_header.specs.Reading.{Reading, sound, faulty, allowed, maxTelegram, reading}
-use Rattle.mop_header.specs.ReadBack.{sized, InOrder}
+use Rattle.mop_reader.specs.Reading.{Reading, sound, faulty, allowed, maxTelegram, reading}
+use Rattle.mop_reader.specs.ReadBack.{sized, InOrder}
 use Rattle.mop_header.specs.declared.Function.{Function}
 use Rattle.mop_header.specs.declared.Function.the-variants.{Request, Reply}
 use Rattle.mop_header.specs.declared.Form.{Form}
 use Rattle.mop_header.specs.declared.Form.the-variants.{Standard, Extended}
-use Rattle.mop_header.specs.declared.Reader.the-variants.{Station, Centre}
+use Rattle.mop_reader.specs.declared.Reader.the-variants.{Station, Centre}
 use Rattle.mop_header.proofs.Lengths.{headerRoom, length-header}
-use Rattle.mop_header.proofs.Readers.{taken-good, centre-takes, centre-allows}
-use Rattle.mop_header.proofs.ReadBack.{reads-back, is-written, sound-room}
-use Rattle.mop_header.proofs.Steps.{not-allowed}
+use Rattle.mop_reader.proofs.Readers.{taken-good, centre-takes, centre-allows}
+use Rattle.mop_reader.proofs.ReadBack.{reads-back, is-written, sound-room}
+use Rattle.mop_reader.proofs.Steps.{not-allowed}
 use Rattle.mop_centre.specs.Reply.{Receipt, notMine, refuses, receiving, replyReceipt}
 use Rattle.mop_centre.proofs.Replies.{receipt-by, for-station}
 use Rattle.net_journey.specs.Terms.{Shown, shows, unreadable, shownIn, shown, thereAndBack, lastTelegram}

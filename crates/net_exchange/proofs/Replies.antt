@@ -6,13 +6,13 @@ use Prim.Native.Nat.{ℕ, _+_, _*_, _≤_}
 use lib.ListN.{length}
 use Rattle.mop_block.specs.Block.{stations, first}
 use Rattle.mop_header.specs.Header.{Head, headerLength, telegramOf}
-use Rattle.mop_header.specs.Reading.{maxTelegram}
-use Rattle.mop_header.specs.ReadBack.{InOrder}
-use Rattle.mop_header.specs.declared.Reader.the-variants.{Centre}
-use Rattle.mop_header.proofs.ReadBack.{reads-back, is-written}
+use Rattle.mop_reader.specs.Reading.{maxTelegram}
+use Rattle.mop_reader.specs.ReadBack.{InOrder}
+use Rattle.mop_reader.specs.declared.Reader.the-variants.{Centre}
+use Rattle.mop_reader.proofs.ReadBack.{reads-back, is-written}
 use Rattle.mop_body.specs.Body.{readCount, replyWith}
 use Rattle.mop_body.proofs.Bodies.{start-repeated, count-repeated, bytes-behind, length-reply-with}
-use Rattle.mop_centre.specs.Reply.{accepted, acceptedReading, readOut, replyReading}
+use Rattle.mop_centre.specs.Reply.{acceptedReading, readOut, replyReading}
 use Rattle.mop_centre.proofs.Replies.{accepted-passed, reply-read, other-read, receipt-read}
 use Rattle.net_exchange.specs.ReadBack.{ReplyReadsBack, AcceptedIsReply, OthersTellNothing}
 

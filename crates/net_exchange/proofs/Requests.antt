@@ -1,40 +1,36 @@
 -- A request of the centre, as a station reads it.
 -- Assumes nothing.
 use mathlib.Core.Path.{_≡_, refl, sym, _∙_, ap, subst}
-use mathlib.Core.Bool.{Bool, true, false, not, _||_, false≢true}
+use mathlib.Core.Bool.{Bool, true, false}
 use mathlib.Core.List.{List, [], _∷_, _++_, append-nil}
 use Prim.Native.Nat.{ℕ, suc, _+_, _-_, _≤_, _<_}
 use native.Mathlib.Omega.{arith}
-use borrow.Author.Tests.{ltb-false, leb-true, leb-false, eq-eqb, le-leb, not-false}
-use lib.Dec.{ltb, leb}
-use lib.ListN.{length, getD, take, length-append, length-replicate}
-use Rattle.base.specs.Choice.{pick}
-use Rattle.base.specs.Filling.{filled, refused, Filling, denied, written, fitted}
-use Rattle.base.proofs.Places.{take-placed}
+use borrow.Author.Tests.{leb-true, leb-false, eq-eqb, le-leb}
+use lib.Dec.{leb}
+use lib.ListN.{length, getD, length-append, length-replicate}
+use Rattle.base.specs.Filling.{Filling}
 use Rattle.mop_block.specs.Block.{stations, first}
 use Rattle.mop_block.specs.Zipper.{zeros, spread, Full, nil, cons, Once}
 use Rattle.mop_block.proofs.Counts.{distinct-once}
 use Rattle.mop_block.proofs.Stations.{distinct-full, stations-full, stations-spread}
 use Rattle.mop_block.proofs.Zipper.{last-zero, view-is-good}
 use Rattle.mop_header.specs.Header.{Head, head, markByte, markIs, markAgrees, newControl}
-use Rattle.mop_header.specs.Reading.{allowed, goodFor}
-use Rattle.mop_header.specs.ReadBack.{sized, InOrder}
+use Rattle.mop_reader.specs.Reading.{allowed, goodFor}
+use Rattle.mop_reader.specs.ReadBack.{sized, InOrder}
 use Rattle.mop_header.specs.declared.Function.the-variants.{Request}
 use Rattle.mop_header.specs.declared.Form.{Form}
 use Rattle.mop_header.specs.declared.Form.the-variants.{Standard, Extended}
-use Rattle.mop_header.specs.declared.Reader.the-variants.{Station}
-use Rattle.mop_header.proofs.Lengths.{header-bound}
-use Rattle.mop_header.proofs.ReadBack.{reads-back}
-use Rattle.mop_header.proofs.Writing.{length-telegram}
+use Rattle.mop_reader.specs.declared.Reader.the-variants.{Station}
+use Rattle.mop_reader.proofs.ReadBack.{reads-back}
 use Rattle.mop_body.specs.Body.{readStart, readCount, writeStart, writeCount, valuesOf, requestBody}
 use Rattle.mop_body.proofs.Bodies.{read-start-back, read-count-back, write-start-back, write-count-back, values-back, length-request-body}
-use Rattle.mop_centre.specs.Request.{goodRoute, requestHead, requestTelegram, maxRun, requesting}
+use Rattle.mop_centre.specs.Request.{requestHead, requestTelegram, maxRun}
 use Rattle.mop_centre.proofs.Routes.{Route, route-parts, standard-head, extended-head}
-use Rattle.mop_centre.proofs.Requests.{request-fitted}
+use Rattle.mop_centre.proofs.Requests.{request-fitted, wrote, request-most}
 use Rattle.base.proofs.Filling.{fitted-room}
 use Rattle.net_journey.specs.Terms.{Fresh}
 use Rattle.net_journey.proofs.Ring.{lastOf, last-append, last-at}
-use Rattle.net_exchange.specs.ReadBack.{routeEnd, ReadsAs, RequestReadsBack, maxRequest, EveryRequestFits}
+use Rattle.net_exchange.specs.ReadBack.{routeEnd, ReadsAs, RequestReadsBack, EveryRequestFits}
 
 -- the header of a route: its stations ahead, 00s, and nothing passed yet
 pub record Shape (route : List ℕ) : Type 0 where
@@ -106,45 +102,6 @@ module _ (route : List ℕ) (r : Route route) (form : Form) (z : ℕ) where
     mark = mark;
   }
 
--- a call that gives a length was refused by no test
-module _ (out : List ℕ) (n : ℕ) where
-  refused-filled : (k : ℕ) → refused k ≡ filled n → ⊥
-  refused-filled k e = let z : _≡_ {A = ℕ} 0 1 = cc in omega arith
-
-  passed : (t : Bool) (k : ℕ) (x : Filling) → pick t (denied k out) x .given ≡ filled n → (t ≡ false) × (x .given ≡ filled n)
-  passed true k x e = absurd (refused-filled k e)
-  passed false k x e = (refl, e)
-
-same-length : (a n : ℕ) → filled a ≡ filled n → a ≡ n
-same-length a n e = cc
-
-neither : (a b : Bool) → (a || b) ≡ false → (a ≡ false) × (b ≡ false)
-neither true b e = absurd (false≢true (sym e))
-neither false b e = (refl, e)
-
--- what it wrote
-pub record Wrote (route : List ℕ) (rStart rCount wStart : ℕ) (values out : List ℕ) (n : ℕ) : Type 0 where
-  pub good : Route route
-  pub few-written : length values ≤ maxRun
-  pub bytes : take n (requesting route rStart rCount wStart values out .output) ≡ requestTelegram route rStart rCount wStart values
-
-module _ (route : List ℕ) (rStart rCount wStart : ℕ) (values out : List ℕ) (n : ℕ) where
-  pub wrote : requesting route rStart rCount wStart values out .given ≡ filled n → Wrote route rStart rCount wStart values out n
-  unfolding requesting fitted
-  wrote e =
-      let telegram = requestTelegram route rStart rCount wStart values in
-      let p = passed out n (not (goodRoute route)) 5 _ e in
-      let q = passed out n (ltb maxRun rCount || ltb maxRun (length values)) 12 _ (p .1) in
-      let r = passed out n (ltb (length out) (length telegram)) 11 (written telegram out) (q .1) in
-      let good = not-false (goodRoute route) (p .0) in
-      let few = neither (ltb maxRun rCount) (ltb maxRun (length values)) (q .0) in
-      let long : length telegram ≡ n = same-length (length telegram) n (r .1) in
-      record {
-        good = route-parts route good;
-        few-written = ltb-false maxRun (length values) (few .1);
-        bytes = rw (good, q .0, r .0, ← long) (take-placed telegram out);
-      }
-
 pub route-order : (route : List ℕ) → Route route → InOrder Station (requestHead route)
 route-order route r =
     let s = shape route r in
@@ -152,17 +109,6 @@ route-order route r =
 
 -- the telegram is read as what was asked for
 module _ (route : List ℕ) (rStart rCount wStart : ℕ) (values : List ℕ) (r : Route route) where
-  pub request-most : length values ≤ maxRun → length (requestTelegram route rStart rCount wStart values) ≤ maxRequest
-  unfolding requestTelegram
-  request-most few =
-      let body = requestBody rStart rCount wStart values in
-      omega (
-        arith,
-        length-telegram (requestHead route) body,
-        header-bound Station (requestHead route) (route-order route r),
-        length-request-body rStart rCount wStart values,
-      )
-
   route-named : stations (requestHead route .block) ≡ route
   route-named = let s = shape route r in ap (λ (h : Head). stations (h .block)) (s .is) ∙ start-named route r (s .form) (s .gap)
 
@@ -172,7 +118,7 @@ module _ (route : List ℕ) (rStart rCount wStart : ℕ) (values : List ℕ) (r 
       let h = requestHead route in
       let body = requestBody rStart rCount wStart values in
       let s = shape route r in
-      let back = reads-back Station h body (route-order route r) (omega (arith, request-most few)) in
+      let back = reads-back Station h body (route-order route r) (omega (arith, request-most route rStart rCount wStart values r few)) in
       record {
         order = back .0;
         named = route-named;

@@ -10,7 +10,7 @@ use Rattle.base.specs.Filling.{filled}
 use Rattle.mop_registers.specs.Runs.{reads}
 use Rattle.mop_header.specs.Header.{headerLength}
 use Rattle.mop_body.specs.Body.{requestBody}
-use Rattle.mop_station.specs.Body.{accepts, rejects, judgedRuns}
+use Rattle.mop_step.specs.Body.{accepts, rejects, judgedRuns}
 use Rattle.mop_centre.specs.Request.{requestHead, requesting}
 use Rattle.mop_centre.specs.Reply.{Receipt, accepted, notMine, refuses, ReplyReading, acceptedReading, replyReading}
 use Rattle.net_journey.specs.Net.{Net, goodNet, allThere, upToMissing, tableAt, withTable}

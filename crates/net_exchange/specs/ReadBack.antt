@@ -9,11 +9,11 @@ use Rattle.base.specs.Words.{bytesOf}
 use Rattle.base.specs.Filling.{filled}
 use Rattle.mop_block.specs.Block.{stations, first}
 use Rattle.mop_header.specs.Header.{Head, headerLength, telegramOf, bodyOf}
-use Rattle.mop_header.specs.Reading.{sound, maxTelegram, reading}
-use Rattle.mop_header.specs.ReadBack.{InOrder, ReadWell}
-use Rattle.mop_header.specs.declared.Reader.the-variants.{Station, Centre}
+use Rattle.mop_reader.specs.Reading.{sound, maxTelegram, reading}
+use Rattle.mop_reader.specs.ReadBack.{InOrder, ReadWell}
+use Rattle.mop_reader.specs.declared.Reader.the-variants.{Station, Centre}
 use Rattle.mop_body.specs.Body.{readStart, readCount, writeStart, writeCount, valuesOf, replyWith}
-use Rattle.mop_centre.specs.Request.{goodRoute, requestHead, maxRun, requesting}
+use Rattle.mop_centre.specs.Request.{goodRoute, requestHead, maxRun, requesting, maxRequest}
 use Rattle.mop_centre.specs.Reply.{accepted, acceptedReading, readOut, unread, replyReading}
 use Rattle.net_journey.specs.Terms.{m, Fresh, destination}
 
@@ -46,11 +46,7 @@ RequestReadsBack =
     requesting route rStart rCount wStart values out .given ≡ filled n →
     ReadsAs route rStart rCount wStart values (take n (requesting route rStart rCount wStart values out .output))
 
--- the most bytes of a request: a header of 39, 6, and 510 for 255 values
-abbrev pub maxRequest : ℕ
-maxRequest = 555
-
--- and no good call is refused: with so many places there is room for every request
+-- and no good call is refused: with as many places as the longest request has there is room for every one
 abbrev pub EveryRequestFits : Type 0
 EveryRequestFits =
     (route : List ℕ) (rStart rCount wStart : ℕ) (values out : List ℕ) →

@@ -1,8 +1,8 @@
 -- `read_reply`: by what reading the header gives.
 -- Assumes nothing.
 use mathlib.Core.Path.{sym, _∙_, ap}
-use Rattle.mop_header.specs.Reading.{readingOf}
-use Rattle.mop_header.specs.declared.HeaderRead.{HeaderRead}
+use Rattle.mop_reader.specs.Reading.{readingOf}
+use Rattle.mop_reader.specs.declared.HeaderRead.{HeaderRead}
 use Rattle.mop_centre.specs.Reply.{ReplyReading, receiving}
 use Rattle.mop_centre.proofs.Replies.{receipt-by, refused-read}
 use borrow.Author.Needs.{needs}

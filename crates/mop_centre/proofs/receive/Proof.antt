@@ -5,10 +5,11 @@ use native.Mathlib.Omega.{arith}
 use borrow.Author.Tests.{eqb-true, not-true, not-false}
 use lib.ListN.{drop}
 use Rattle.mop_header.specs.Header.{blockStart}
-use Rattle.mop_header.specs.declared.Reader.the-variants.{Centre}
-use Rattle.mop_header.proofs.ReadBack.{sound-room}
+use Rattle.mop_reader.specs.declared.Reader.the-variants.{Centre}
+use Rattle.mop_reader.proofs.ReadBack.{sound-room}
 use Rattle.mop_centre.specs.Reply.{ReplyReading}
-use Rattle.mop_centre.proofs.Replies.{block-room, rest-from, body-from, route-room, station-read, miscounted-read, counted-read}
+use Rattle.base.proofs.Places.{rest-from}
+use Rattle.mop_centre.proofs.Replies.{block-room, body-from, route-room, station-read, miscounted-read, counted-read}
 use borrow.Author.Needs.{needs}
 use Rattle.mop_centre.proofs.receive.Statement.{statement}
 use Rattle.mop_centre.proofs.receive.Tie as tie
