@@ -6,9 +6,9 @@ use mathlib.Core.List.{List}
 use Prim.Native.Nat.{ℕ, _≤_, _<_}
 use borrow.Author.Tests.{lt-ltb, le-ltb}
 use lib.ListN.{length}
-use Rattle.mop_header.specs.Reading.{Reading, maxTelegram, reading}
-use Rattle.mop_header.specs.declared.Reader.the-variants.{Station}
-use Rattle.net_dry_run.specs.Tables.{setUp}
+use Rattle.mop_reader.specs.Reading.{Reading, maxTelegram, reading}
+use Rattle.mop_reader.specs.declared.Reader.the-variants.{Station}
+use Rattle.net_hop.specs.Tables.{setUp}
 use Rattle.net_dry_run.specs.DryRun.{outright, leaves, runOutput, runOf, dryRun}
 
 module _ (tg addresses tables out : List ℕ) where

@@ -8,25 +8,25 @@ use native.Mathlib.Nat.{zero-add}
 use native.Mathlib.Omega.{arith}
 use lib.ListN.{length, take, drop}
 use Rattle.base.specs.Places.{placed}
-use Rattle.base.proofs.Places.{take-rest}
-use Rattle.mop_header.specs.Header.{Head, headOf, blockStart, headerLength, telegramOf, bodyOf}
+use Rattle.mop_header.specs.Header.{Head, headOf, blockStart, headerLength, telegramOf}
 use Rattle.mop_header.specs.declared.Header.{Header}
-use Rattle.mop_header.specs.Reading.{sound, reading}
+use Rattle.mop_reader.specs.Reading.{sound, reading}
 use Rattle.mop_header.specs.declared.Function.the-variants.{Reply}
-use Rattle.mop_header.specs.declared.Reader.the-variants.{Station}
-use Rattle.mop_header.proofs.ReadBack.{is-written}
+use Rattle.mop_reader.specs.declared.Reader.the-variants.{Station}
+use Rattle.mop_reader.proofs.ReadBack.{is-written}
 use Rattle.mop_station.specs.Station.{Handled, sent, notMine, refuses}
 use Rattle.net_journey.specs.Net.{Net}
 use Rattle.net_journey.specs.Journey.{Ending, atZero, Handler, noStation, station, handler, Course, onward, leftBy}
 use Rattle.net_journey.specs.Terms.{lastTelegram}
 use Rattle.net_journey.specs.Bounded.{calling, answered, heardBy, playing, mostTransmissions}
-use Rattle.net_dry_run.specs.Tables.{netOf, setUp}
-use Rattle.net_dry_run.specs.Hop.{placesOf}
+use Rattle.net_hop.specs.Tables.{netOf, setUp}
+use Rattle.net_hop.specs.Private.Ways.{OnItsWay}
 use Rattle.net_dry_run.specs.DryRun.{played, leaves, padded, ofCourse}
-use Rattle.net_dry_run.specs.Private.Legs.{Summary, summaryOf, summaryFrom, OnItsWay, LegEnds, LegTurns, Leads, ofSummary}
+use Rattle.net_dry_run.specs.Private.Legs.{Summary, summaryOf, summaryFrom, LegEnds, LegTurns, Leads, ofSummary}
 use Rattle.net_dry_run.specs.declared.Halt.{Halt}
-use Rattle.net_dry_run.proofs.Tables.{same-tables}
-use Rattle.net_dry_run.proofs.Hops.{Goes, GoesOn, TurnsBack, Ends}
+use Rattle.net_hop.proofs.Tables.{same-tables}
+use Rattle.net_hop.proofs.Lent.{whole-telegram}
+use Rattle.net_hop.proofs.Hops.{Goes, GoesOn, TurnsBack, Ends}
 
 -- whatever is played has a transmission
 given-some : (rest : Net → List ℕ → Course) (net : Net) (tg output : List ℕ) (v : Handled) → 1 ≤ length (answered rest net tg output v .transmissions)
@@ -165,26 +165,9 @@ module _ (read : Header) (tg addresses tables : List ℕ) (order : reading Stati
   abbrev body : List ℕ
   body = take (length tg - n) (drop n tg)
 
-  same-head : headOf read slice ≡ headOf read (drop (blockStart (read .form)) tg)
-  same-head = ap (headOf read) (take-rest start tg ∙ ap (λ (k : ℕ). drop k tg) begins)
-
-  whole-telegram : telegramOf (headOf read slice) body ≡ tg
-  unfolding bodyOf
-  whole-telegram =
-      ap₂ telegramOf same-head (take-rest n tg ∙ ap (λ (k : ℕ). drop k tg) (long (drop (blockStart (read .form)) tg)))
-      ∙ is-written Station tg (headOf read (drop (blockStart (read .form)) tg)) order .whole
-
-  pub sets-out : OnItsWay addresses (placesOf addresses) tables 0 (headOf read slice) body
-  sets-out = record {
-    set = set;
-    known = refl;
-    order = ap (reading Station) whole-telegram ∙ order ∙ ap sound (sym same-head);
-    most = omega arith;
-  }
-
   pub whole-run : (out : List ℕ) → ofSummary (summaryFrom 0 (netOf addresses tables) (headOf read slice) body) out
       ≡ ofCourse (playing mostTransmissions (netOf addresses tables) tg) out
   unfolding ofCourse
   whole-run out =
-      ap (λ (l : List ℕ). ofSummary (summaryOf 0 (playing mostTransmissions (netOf addresses tables) l)) out) whole-telegram
+      ap (λ (l : List ℕ). ofSummary (summaryOf 0 (playing mostTransmissions (netOf addresses tables) l)) out) (whole-telegram read tg order begins long)
       ∙ rw (zero-add (length (playing mostTransmissions (netOf addresses tables) tg .transmissions)))

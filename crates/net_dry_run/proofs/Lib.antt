@@ -1,6 +1,3 @@
-pub mod Tables
-pub mod Places
-pub mod Hops
 pub mod Legs
 pub mod Outputs
 pub mod DryRuns

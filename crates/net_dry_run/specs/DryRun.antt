@@ -10,14 +10,14 @@ use Rattle.base.specs.Choice.{pick}
 use Rattle.base.specs.Places.{placed}
 use Rattle.refusal.specs.Numbers.{numberOf}
 use Rattle.mop_header.specs.Header.{Head}
-use Rattle.mop_header.specs.Reading.{Reading, sound, faulty, tooLong, reading}
-use Rattle.mop_header.specs.declared.Reader.the-variants.{Station}
+use Rattle.mop_reader.specs.Reading.{Reading, sound, faulty, tooLong, reading}
+use Rattle.mop_reader.specs.declared.Reader.the-variants.{Station}
 use Rattle.net_journey.specs.Journey.{Ending, Course}
 use Rattle.net_journey.specs.Terms.{lastTelegram}
 use Rattle.net_journey.specs.Demand3.{TheJourney}
 use Rattle.net_journey.specs.Bounded.{playing, mostTransmissions}
-use Rattle.net_dry_run.specs.Tables.{netOf, tablesOf, setUp}
-use Rattle.net_dry_run.specs.Hop.{endingOf}
+use Rattle.net_hop.specs.Tables.{netOf, tablesOf, setUp}
+use Rattle.net_hop.specs.Hop.{endingOf}
 use Rattle.net_dry_run.specs.declared.DryRunAnswer.{DryRunAnswer}
 use Rattle.net_dry_run.specs.declared.DryRunAnswer.the-variants.{Played, Refused}
 
@@ -79,7 +79,3 @@ abbrev pub RunsTheJourney : Type 0
 RunsTheJourney =
     (tg addresses tables out : List ℕ) (h : Head) → setUp addresses tables ≡ true → runOutput ≤ length out → reading Station tg ≡ sound h →
     RanTheJourney tg addresses tables out
-
--- the tables of the net are the tables given, each where it was
-abbrev pub SameTables : Type 0
-SameTables = (addresses tables : List ℕ) → setUp addresses tables ≡ true → tablesOf (netOf addresses tables) ≡ tables

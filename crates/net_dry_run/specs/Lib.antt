@@ -1,4 +1,2 @@
-pub mod Tables
-pub mod Hop
 pub mod DryRun
 pub mod Private

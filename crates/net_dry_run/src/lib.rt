@@ -1,160 +1,39 @@
 // The dry run of a net: the journey of a telegram over tables end to end, hop after hop. In each hop the called station makes its
 // step on the header; the entries of the block stay where the telegram has them, and the last telegram is written at the end.
 use mop_header::Header;
-use mop_header::HeaderRead;
-use mop_header::MAX_TELEGRAM;
-use mop_header::Reader;
-use mop_registers::TABLE_LENGTH;
-use mop_station::REPLY_BODY;
-use mop_station::StationStep;
+use mop_reader::HeaderRead;
+use mop_reader::MAX_TELEGRAM;
+use mop_reader::Reader;
+use mop_step::REPLY_BODY;
+use net_hop::BYTES;
+use net_hop::HopAnswer;
+use net_hop::JourneyEnd;
+use net_hop::MOST_TRANSMISSIONS;
 use refusal::Refusal;
 ghost use mathlib.Core.Path.{_≡_};
 ghost use mathlib.Core.Bool.{true};
-ghost use Prim.Native.Nat.{suc, _*_, _≤_};
-ghost use lib.ListN.{length, getD, take, drop};
+ghost use Prim.Native.Nat.{_≤_};
+ghost use lib.ListN.{length, take, drop};
 ghost use Rattle.base.specs.Places.{placed};
-ghost use Rattle.mop_registers.specs.Rows.{tableLength};
 ghost use Rattle.mop_header.specs.Header.{headOf, telegramOf, blockStart};
-ghost use Rattle.mop_header.specs.Reading.{sound, reading};
-ghost use Rattle.mop_header.specs.declared.Reader.the-variants.{Station};
+ghost use Rattle.mop_reader.specs.Reading.{sound, reading};
+ghost use Rattle.mop_reader.specs.declared.Reader.the-variants.{Station};
 ghost use Rattle.mop_header.specs.declared.Function.the-variants.{Reply};
-ghost use Rattle.mop_station.specs.Step.{maxReply};
+ghost use Rattle.mop_step.specs.Step.{maxReply};
 ghost use Rattle.net_journey.specs.Bounded.{playing, mostTransmissions};
-ghost use Rattle.net_dry_run.specs.Tables.{netOf, setUp};
-ghost use Rattle.net_dry_run.specs.Hop.{placesOf, endingOf, hopOf, stepAt, hopping};
+ghost use Rattle.net_hop.specs.Tables.{netOf, setUp};
+ghost use Rattle.net_hop.specs.Hop.{placesOf, endingOf};
+ghost use Rattle.net_hop.specs.Private.Ways.{OnItsWay};
 ghost use Rattle.net_dry_run.specs.DryRun.{played, outcomeOf, dryRunOf, runOutput, padded, ofCourse, dryRun};
-ghost use Rattle.net_dry_run.specs.Private.Legs.{summaryFrom, OnItsWay, Leads, ofSummary};
-
-// The most stations of a dry run.
-const MAX_STATIONS: usize = 64;
+ghost use Rattle.net_dry_run.specs.Private.Legs.{summaryFrom, Leads, ofSummary};
 
 // The places of the output that a dry run fills, and asks for.
 const RUN_OUTPUT: usize = 1024;
-
-// How many bytes there are.
-const BYTES: usize = 256;
-
-// The most transmissions of a journey: 31 stations, out and back.
-pub const MOST_TRANSMISSIONS: usize = 62;
-
-// How a journey ends: with a 00 first, with an address first that nobody has, or refused by a station.
-pub enum JourneyEnd {
-    AtZero,
-    AtNobody,
-    Refused(Refusal),
-}
-
-// What a hop gives: the header with which the telegram goes on, with its own body; the header of the reply, and how many bytes its
-// body has; or how the journey ended.
-pub enum HopAnswer {
-    Relayed(Header),
-    Answered(Header, usize),
-    Ended(JourneyEnd),
-}
 
 // What a dry run gives: the count of transmissions, how the journey ended and the length of the last telegram; or a refusal.
 pub enum DryRunAnswer {
     Played(usize, JourneyEnd, usize),
     Refused(Refusal),
-}
-
-// Whether a net is set up rightly: at most 64 different addresses, each 1 to 240, and a table for each.
-pub fn is_set_up(addresses: &[u8], tables: &[u16]) -> bool
-    ensures { λ r. ⌜ r ≡ setUp (now (addresses .entry)) (now (tables .entry)) ⌝ }
-{
-    if MAX_STATIONS < addresses.len() {
-        return false;
-    }
-    if tables.len() != TABLE_LENGTH * addresses.len() {
-        return false;
-    }
-    mop_block::distinct_addresses(addresses)
-}
-
-// A table of places: at each address one more than the place of its station in the list, and 0 at all other bytes. Of more than 64
-// addresses it has the first 64.
-pub fn places_of(addresses: &[u8]) -> [u8; BYTES]
-    ensures { λ r. ⌜ r ≡ placesOf (now (addresses .entry)) ⌝ }
-{
-    let mut places = [0u8; BYTES];
-    let mut i: usize = 0;
-    while i < addresses.len() {
-        if i == MAX_STATIONS {
-            return places;
-        }
-        let a = addresses[i] as usize;
-        i += 1;
-        places[a] = i as u8;
-    }
-    places
-}
-
-// What a table of places has at an address.
-fn number_at(places: &[u8; BYTES], a: u8) -> u8
-    ensures { λ r. ⌜ r ≡ getD (now (places .entry)) a 0 ⌝ }
-{
-    let at = a as usize;
-    places[at]
-}
-
-// The step of the station at a place. "Not mine" is never given, since its own entry is the first.
-fn step_at(
-    own: u8,
-    place: usize,
-    header: Header,
-    block: &[u8],
-    body: &[u8],
-    tables: &mut [u16],
-    reply: &mut [u8],
-) -> HopAnswer
-    requires { ⌜ tableLength * suc place ≤ length (now tables) ⌝ }
-    ensures { λ r. ⌜ hopOf r (now (block .entry)) (now (tables .exit)) (now (reply .exit)) ≡ stepAt own place (headOf header (now (block .entry))) (now (body .entry)) (now (tables .entry)) (now (reply .entry)) ⌝ }
-{
-    let start = TABLE_LENGTH * place;
-    let end = start + TABLE_LENGTH;
-    let table = &mut tables[start..end];
-    match mop_station::step(own, header, block, body, table, MAX_TELEGRAM, &mut *reply) {
-        StationStep::Relayed(h) => HopAnswer::Relayed(h),
-        StationStep::Answered(h, n) => HopAnswer::Answered(h, n),
-        StationStep::NotMine => HopAnswer::Ended(JourneyEnd::AtNobody),
-        StationStep::Refused(r) => HopAnswer::Ended(JourneyEnd::Refused(r)),
-    }
-}
-
-// One hop of a journey: the station that the header's first entry names makes its step, with the table at its place and room for
-// the longest telegram. Relayed: the header with which the telegram goes on. Answered: the header of the reply, and how many places
-// of the lent buffer its body fills. Ended, and tables and buffer as they were: at an entry 00; at an address without a place, or
-// with one that the tables do not reach; refused by that station.
-pub fn hop(
-    header: Header,
-    block: &[u8],
-    body: &[u8],
-    places: &[u8; BYTES],
-    tables: &mut [u16],
-    reply: &mut [u8],
-) -> HopAnswer
-    ensures { λ r. ⌜ hopOf r (now (block .entry)) (now (tables .exit)) (now (reply .exit)) ≡ hopping (now (places .entry)) (headOf header (now (block .entry))) (now (body .entry)) (now (tables .entry)) (now (reply .entry)) ⌝ }
-{
-    let entry = header.first(block);
-    if entry == 0 {
-        return HopAnswer::Ended(JourneyEnd::AtZero);
-    }
-    let number = number_at(places, entry) as usize;
-    if number == 0 {
-        return HopAnswer::Ended(JourneyEnd::AtNobody);
-    }
-    if tables.len() < TABLE_LENGTH * number {
-        return HopAnswer::Ended(JourneyEnd::AtNobody);
-    }
-    step_at(
-        entry,
-        number - 1,
-        header,
-        block,
-        body,
-        &mut *tables,
-        &mut *reply,
-    )
 }
 
 // Clears the places of out from `from` on, of those that a dry run fills.
@@ -202,7 +81,7 @@ fn walk(
     let mut header = first;
     let mut gone = before;
     while gone < MOST_TRANSMISSIONS {
-        match hop(header, block, body, places, &mut *tables, &mut *reply) {
+        match net_hop::hop(header, block, body, places, &mut *tables, &mut *reply) {
             HopAnswer::Relayed(h) => {
                 header = h;
                 gone += 1;
@@ -299,7 +178,7 @@ fn run(
     requires { ⌜ runOutput ≤ length (now out) ⌝ }
     ensures { λ r. ⌜ dryRunOf r (now (tables .exit)) (now (out .exit)) ≡ ofSummary (summaryFrom 0 (netOf (now (addresses .entry)) (now (tables .entry))) (headOf first (now (block .entry))) (now (body .entry))) (now (out .entry)) ⌝ }
 {
-    let places = places_of(addresses);
+    let places = net_hop::places_of(addresses);
     let mut reply = [0u8; REPLY_BODY];
     let leg = walk(
         first,
@@ -370,7 +249,7 @@ pub fn dry_run(
 ) -> DryRunAnswer
     ensures { λ r. ⌜ dryRunOf r (now (tables .exit)) (now (out .exit)) ≡ dryRun (now (telegram .entry)) (now (addresses .entry)) (now (tables .entry)) (now (out .entry)) ⌝ }
 {
-    if !is_set_up(addresses, &*tables) {
+    if !net_hop::is_set_up(addresses, &*tables) {
         return DryRunAnswer::Refused(Refusal::Setup);
     }
     if MAX_TELEGRAM < telegram.len() {
@@ -379,7 +258,7 @@ pub fn dry_run(
     if out.len() < RUN_OUTPUT {
         return DryRunAnswer::Refused(Refusal::OutputShort);
     }
-    match mop_header::read(Reader::Station, telegram) {
+    match mop_reader::read(Reader::Station, telegram) {
         HeaderRead::Fault(r) => DryRunAnswer::Refused(r),
         HeaderRead::Fine(header) => play(header, telegram, addresses, &mut *tables, &mut *out),
     }

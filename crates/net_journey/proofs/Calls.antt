@@ -10,20 +10,22 @@ use Rattle.base.specs.Places.{placed}
 use Rattle.mop_registers.specs.Rows.{tableLength}
 use Rattle.mop_block.specs.Block.{isAddress, first, next}
 use Rattle.mop_header.specs.Header.{Head, headerLength, telegramOf, bodyOf, rolledLeft, sentBack}
-use Rattle.mop_header.specs.Reading.{sound, faulty, reading}
-use Rattle.mop_header.specs.ReadBack.{ReadWell}
+use Rattle.mop_reader.specs.Reading.{sound, faulty, reading}
+use Rattle.mop_reader.specs.ReadBack.{ReadWell}
 use Rattle.mop_header.specs.declared.Function.{Function}
 use Rattle.mop_header.specs.declared.Function.the-variants.{Request, Reply}
-use Rattle.mop_header.specs.declared.Reader.the-variants.{Station}
-use Rattle.mop_header.proofs.Lengths.{header-bound, length-rolled-left, length-sent-back}
+use Rattle.mop_reader.specs.declared.Reader.the-variants.{Station}
+use Rattle.mop_header.proofs.Lengths.{length-rolled-left, length-sent-back}
+use Rattle.mop_reader.proofs.Sizes.{header-bound}
 use Rattle.mop_header.proofs.Writing.{length-telegram}
-use Rattle.mop_header.proofs.ReadBack.{is-written}
-use Rattle.mop_station.specs.Body.{Acceptance, accepts, rejects, judgedBody, afterWrites, replyBody}
-use Rattle.mop_station.specs.Step.{Step, relayed, replied, answering, acting}
+use Rattle.mop_reader.proofs.ReadBack.{is-written}
+use Rattle.mop_step.specs.Body.{Acceptance, accepts, rejects, judgedBody, afterWrites, replyBody}
+use Rattle.mop_step.specs.Step.{Step, relayed, replied, answering, acting}
 use Rattle.mop_station.specs.Station.{sent, refuses, leaving, sendingBy, taking, handling}
-use Rattle.mop_station.proofs.Answers.{length-replied, reply-bound}
-use Rattle.mop_station.proofs.Steps.{relay-sent, answer-sent, to-destination, to-relay, reply-to-relay, for-this}
-use Rattle.mop_station.proofs.Telegrams.{is-station, heard-faulty, heard}
+use Rattle.mop_step.proofs.Answers.{length-replied, reply-bound}
+use Rattle.mop_step.proofs.Steps.{relay-sent, answer-sent, to-destination, to-relay, reply-to-relay, for-this}
+use Rattle.mop_station.proofs.Telegrams.{heard-faulty, heard}
+use Rattle.mop_step.proofs.Stations.{is-station}
 use Rattle.net_journey.specs.Journey.{callOutput}
 
 -- a fault of the header

@@ -9,8 +9,8 @@ use lib.ListN.{length}
 use Rattle.mop_station.specs.Station.{Handled, sent, refuses, handling}
 use Rattle.base.specs.Choice.{pick}
 use Rattle.mop_block.specs.Block.{first}
-use Rattle.mop_header.specs.Reading.{Reading, sound, faulty, reading}
-use Rattle.mop_header.specs.declared.Reader.the-variants.{Station}
+use Rattle.mop_reader.specs.Reading.{Reading, sound, faulty, reading}
+use Rattle.mop_reader.specs.declared.Reader.the-variants.{Station}
 use Rattle.net_journey.specs.Net.{Net, addressesOf, isThere, tableAt}
 use Rattle.net_journey.specs.Journey.{atNobody, refusedWith, noStation, station, named, addressee, handler, Course, Journey, ends, refused, sends}
 use Rattle.net_journey.specs.Terms.{sentOnly, isFine, allFine}

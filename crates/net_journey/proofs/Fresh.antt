@@ -16,9 +16,9 @@ use Rattle.mop_header.specs.declared.Function.{Function}
 use Rattle.mop_header.specs.declared.Function.the-variants.{Request, Reply}
 use Rattle.mop_header.proofs.Marks.{agrees-remarked}
 use Rattle.mop_body.specs.Body.{writeStart, valuesOf}
-use Rattle.mop_station.specs.Body.{accepts, judgedBody, afterWrites, replyBody}
-use Rattle.mop_station.proofs.Bodies.{accepted}
-use Rattle.mop_station.proofs.Answers.{length-values}
+use Rattle.mop_step.specs.Body.{accepts, judgedBody, afterWrites, replyBody}
+use Rattle.mop_step.proofs.Bodies.{accepted}
+use Rattle.mop_step.proofs.Answers.{length-values}
 use Rattle.net_journey.specs.Net.{Net, goodNet, isThere, allThere, tableAt, withTable}
 use Rattle.net_journey.specs.Journey.{Course}
 use Rattle.net_journey.specs.Terms.{m, shown, thereAndBack, WrittenBy, destination}

@@ -10,8 +10,8 @@ use Rattle.mop_block.specs.Block.{rollRight}
 use Rattle.mop_block.specs.Zipper.{spread, returned, Full, nil, cons, Once}
 use Rattle.mop_block.proofs.Zipper.{right-returns}
 use Rattle.mop_header.specs.Header.{head, remarked}
-use Rattle.mop_header.specs.Reading.{maxTelegram}
-use Rattle.mop_header.specs.ReadBack.{sized}
+use Rattle.mop_reader.specs.Reading.{maxTelegram}
+use Rattle.mop_reader.specs.ReadBack.{sized}
 use Rattle.mop_header.specs.declared.Form.{Form}
 use Rattle.mop_header.specs.declared.Function.the-variants.{Reply}
 use Rattle.mop_header.proofs.Lengths.{headerRoom}

@@ -4,6 +4,7 @@ use mathlib.Core.Path.{_≡_, refl, sym, _∙_, ap, subst}
 use mathlib.Core.Bool.{Bool, true, false, and-eq-true-iff}
 use mathlib.Core.List.{List}
 use Prim.Native.Nat.{ℕ, zero, suc, _≤_}
+use native.Mathlib.Nat.{suc-ne-zero}
 use native.Mathlib.Omega.{arith}
 use borrow.Author.Tests.{eqb-true, eqb-false}
 use lib.Dec.{eqb}
@@ -13,15 +14,16 @@ use Rattle.base.proofs.Places.{take-placed}
 use Rattle.mop_registers.specs.Rows.{tableLength}
 use Rattle.mop_block.specs.Block.{isAddress, first, next}
 use Rattle.mop_header.specs.Header.{Head, telegramOf, bodyOf, rolledLeft, sentBack}
-use Rattle.mop_header.specs.Reading.{Reading, sound, faulty, reading}
+use Rattle.mop_reader.specs.Reading.{Reading, sound, faulty, reading}
 use Rattle.mop_header.specs.declared.Function.{Function}
 use Rattle.mop_header.specs.declared.Function.the-variants.{Request, Reply}
-use Rattle.mop_header.specs.declared.Reader.the-variants.{Station}
-use Rattle.mop_station.specs.Body.{Acceptance, accepts, rejects, judgedBody, afterWrites, replyBody}
-use Rattle.mop_station.specs.Step.{Step, isStation, replied}
+use Rattle.mop_reader.specs.declared.Reader.the-variants.{Station}
+use Rattle.mop_step.specs.Body.{Acceptance, accepts, rejects, judgedBody, afterWrites, replyBody}
+use Rattle.mop_step.specs.Step.{Step, isStation, replied}
 use Rattle.mop_station.specs.Station.{Handled, sent, notMine, refuses, Handling, leaving, sendingBy, taking, handling}
-use Rattle.mop_station.proofs.Steps.{for-another}
-use Rattle.mop_station.proofs.Telegrams.{is-station, not-set-up, heard}
+use Rattle.mop_step.proofs.Steps.{for-another}
+use Rattle.mop_station.proofs.Telegrams.{not-set-up, heard}
+use Rattle.mop_step.proofs.Stations.{is-station}
 use Rattle.net_journey.specs.Journey.{callOutput}
 use Rattle.net_journey.proofs.Calls.{call-fault, call-reply, call-request, call-accepted, call-rejected}
 
@@ -66,10 +68,7 @@ module _ (own : ℕ) (t tg : List ℕ) where
         by-next request zero e = by-verdict request e (judgedBody (bodyOf h tg)) refl
         by-next request (suc n) e =
             sending (telegramOf (rolledLeft h) (bodyOf h tg)) t
-            (λ out room. call-request own t tg out h order address long mine room request (λ z. not-zero n (sym e ∙ z)))
-          where
-            not-zero : (n : ℕ) → suc n ≡ 0 → ⊥
-            not-zero n z = omega arith
+            (λ out room. call-request own t tg out h order address long mine room request (λ z. suc-ne-zero n (sym e ∙ z)))
 
         by-function : (f : Function) → h .function ≡ f → Call own t tg
         by-function Request e = by-next e (next (h .block)) refl

@@ -10,14 +10,14 @@ use lib.ListN.{length}
 use Rattle.mop_block.specs.Block.{first, rollLeft, rollRight}
 use Rattle.mop_block.specs.Zipper.{spread, Full, nil, cons, Once}
 use Rattle.mop_header.specs.Header.{newControl}
-use Rattle.mop_header.specs.Reading.{maxTelegram}
-use Rattle.mop_header.specs.ReadBack.{sized}
+use Rattle.mop_reader.specs.Reading.{maxTelegram}
+use Rattle.mop_reader.specs.ReadBack.{sized}
 use Rattle.mop_header.specs.declared.Form.{Form}
 use Rattle.mop_header.specs.declared.Function.the-variants.{Request, Reply}
-use Rattle.mop_station.specs.Body.{Acceptance, accepts, rejects, judgedBody, afterWrites, replyBody}
+use Rattle.mop_step.specs.Body.{Acceptance, accepts, rejects, judgedBody, afterWrites, replyBody}
 use Rattle.mop_header.proofs.Lengths.{headerRoom}
-use Rattle.mop_station.proofs.Bodies.{rejected-number}
-use Rattle.mop_station.proofs.Answers.{length-after, reply-bound}
+use Rattle.mop_step.proofs.Bodies.{rejects-accepts, rejected-number}
+use Rattle.mop_step.proofs.Answers.{length-after, reply-bound}
 use Rattle.net_journey.specs.Net.{Net, goodNet, isThere, allThere, upToMissing, tableAt, withTable}
 use Rattle.net_journey.specs.Journey.{atZero, atNobody, refusedWith, Course, unheard, refusal, onward, callOutput, Journey}
 use Rattle.net_journey.specs.Terms.{shows, shown, allOrdinary, allFine}
@@ -81,9 +81,6 @@ one-on l z k n h = omega arith
 
 same-ending : {v : Acceptance} {k j : ℕ} → v ≡ rejects k → v ≡ rejects j → refusedWith k ≡ refusedWith j
 same-ending e f = cc
-
-rejects-accepts : {v : Acceptance} {k : ℕ} → v ≡ rejects k → v ≡ accepts → ⊥
-rejects-accepts e f = let x : _≡_ {A = ℕ} 0 1 = cc in omega arith
 
 -- the stations in the order of the ring, and the block's length, stay; `out` is the output that each call is lent
 module _ (out : List ℕ) (room : callOutput ≤ length out) (form : Form) (z : ℕ) (ring : List ℕ) (n : ℕ) (once : Once ring) (size : sized form n ≡ true)

@@ -11,8 +11,8 @@ use Rattle.mop_block.specs.Zipper.{spread, returned, Full, nil, cons, Once, Zip
 use Rattle.mop_block.proofs.Rolls.{length-left, length-right}
 use Rattle.mop_block.proofs.Stations.{full-append, full-reverse}
 use Rattle.mop_block.proofs.Zipper.{has-view, view-is-good, returned-is-good, left-moves, right-moves, right-returns}
-use Rattle.mop_header.specs.Reading.{maxTelegram}
-use Rattle.mop_header.specs.ReadBack.{sized}
+use Rattle.mop_reader.specs.Reading.{maxTelegram}
+use Rattle.mop_reader.specs.ReadBack.{sized}
 use Rattle.mop_header.specs.declared.Form.{Form}
 use Rattle.mop_header.proofs.Lengths.{headerRoom}
 use Rattle.net_journey.proofs.Telegrams.{Faultless}

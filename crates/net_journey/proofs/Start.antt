@@ -5,6 +5,7 @@ use mathlib.Core.Logic.{_⊎_, inl, inr}
 use mathlib.Core.Bool.{Bool, true, false}
 use mathlib.Core.List.{List, [], _∷_, _++_, reverse, reverse-reverse, append-nil}
 use Prim.Native.Nat.{ℕ, zero, suc, _+_, _*_, _≤_}
+use native.Mathlib.Nat.{suc-ne-zero}
 use native.Mathlib.Omega.{arith}
 use lib.ListN.{length, length-append, length-reverse}
 use Rattle.mop_block.specs.Block.{stations, first, rollRight}
@@ -12,14 +13,14 @@ use Rattle.mop_block.specs.Zipper.{spread, Full, nil, cons, Once, Zipper}
 use Rattle.mop_block.proofs.Stations.{full-reverse, stations-spread}
 use Rattle.mop_block.proofs.Zipper.{has-view}
 use Rattle.mop_header.specs.Header.{Head, head, telegramOf, bodyOf, remarked}
-use Rattle.mop_header.specs.Reading.{sound, reading}
+use Rattle.mop_reader.specs.Reading.{sound, reading}
 use Rattle.mop_header.specs.declared.Form.{Form}
 use Rattle.mop_header.specs.declared.Function.{Function}
 use Rattle.mop_header.specs.declared.Function.the-variants.{Request, Reply}
-use Rattle.mop_header.specs.declared.Reader.the-variants.{Station}
+use Rattle.mop_reader.specs.declared.Reader.the-variants.{Station}
 use Rattle.mop_header.proofs.Marks.{agrees-remarked}
-use Rattle.mop_header.proofs.ReadBack.{is-written}
-use Rattle.mop_station.specs.Body.{accepts, rejects, judgedBody}
+use Rattle.mop_reader.proofs.ReadBack.{is-written}
+use Rattle.mop_step.specs.Body.{accepts, rejects, judgedBody}
 use Rattle.net_journey.specs.Net.{Net, goodNet, isThere, allThere, upToMissing}
 use Rattle.net_journey.specs.Journey.{Ending, atZero, atNobody, refusedWith, Course, unheard, onward, callOutput, Journey}
 use Rattle.net_journey.specs.Terms.{m, Fresh, beforeZeros, allOrdinary, allFine}
@@ -72,9 +73,6 @@ named-count p {ahead} {back} z f g = ap length (stations-spread z (cons {a = p} 
 reply-request : Reply ≡ Request → ⊥
 reply-request e = let x : _≡_ {A = ℕ} 0 1 = cc in omega arith
 
-suc-zero : {n : ℕ} → suc n ≡ 0 → ⊥
-suc-zero e = omega arith
-
 -- one transmission that no station shows
 ran-alone : (net : Net) (h : Head) (body tg : List ℕ) (e : Ending) → allFine (tg ∷ []) ≡ true → (Fresh h → ⊥) → Ran net h body (unheard tg net e)
 ran-alone net h body tg e well stale = record {
@@ -101,7 +99,7 @@ of-fresh holds c form p z {ahead} f nil fresh x =
 of-fresh holds c form p z {ahead} f (cons {a = a} {xs = back} g) fresh x =
     let b = spread (suc p ∷ ahead) z (reverse (suc a ∷ back)) in
     let none : reverse (suc a ∷ back) ≡ [] = none-passed (suc p ∷ ahead) z (full-reverse (cons {a = a} g)) (sym (last-at b) ∙ fresh .last-zero) in
-    absurd (suc-zero (sym (length-reverse (suc a ∷ back)) ∙ ap length none))
+    absurd (suc-ne-zero _ (sym (length-reverse (suc a ∷ back)) ∙ ap length none))
 
 module _ (out : List ℕ) (room : callOutput ≤ length out) (net : Net) (fit : goodNet net ≡ true) (c : ℕ) (form : Form) (body : List ℕ) where
   -- with a station first
@@ -195,7 +193,7 @@ module _ (out : List ℕ) (room : callOutput ≤ length out) (net : Net) (fit : 
 
     by-first : (n : ℕ) → first b ≡ n → StartOf net fn c form b body
     by-first zero e = at-zero e
-    by-first (suc n) e = at-station (has-view b (w .good) (λ z. suc-zero (sym e ∙ z)))
+    by-first (suc n) e = at-station (has-view b (w .good) (λ z. suc-ne-zero _ (sym e ∙ z)))
 
 pub start : (out : List ℕ) → callOutput ≤ length out → (net : Net) → goodNet net ≡ true → (tg : List ℕ) (h : Head) → reading Station tg ≡ sound h →
     Start net tg h (bodyOf h tg)

@@ -11,14 +11,14 @@ use Rattle.base.proofs.Places.{take-placed}
 use Rattle.mop_registers.specs.Rows.{tableLength}
 use Rattle.mop_block.specs.Block.{isAddress, first, next, rollLeft, rollRight}
 use Rattle.mop_header.specs.Header.{Head, head, telegramOf, bodyOf, remarked, newControl}
-use Rattle.mop_header.specs.Reading.{Reading, sound, faulty, reading}
+use Rattle.mop_reader.specs.Reading.{Reading, sound, faulty, reading}
 use Rattle.mop_header.specs.declared.Function.{Function}
 use Rattle.mop_header.specs.declared.Function.the-variants.{Request, Reply}
 use Rattle.mop_header.specs.declared.Form.{Form}
-use Rattle.mop_header.specs.declared.Reader.the-variants.{Station}
+use Rattle.mop_reader.specs.declared.Reader.the-variants.{Station}
 use Rattle.mop_header.proofs.Marks.{remarked-function, remarked-block}
-use Rattle.mop_header.proofs.ReadBack.{body-behind}
-use Rattle.mop_station.specs.Body.{accepts, rejects, judgedBody, afterWrites, replyBody}
+use Rattle.mop_reader.proofs.ReadBack.{body-behind}
+use Rattle.mop_step.specs.Body.{accepts, rejects, judgedBody, afterWrites, replyBody}
 use Rattle.mop_station.specs.Station.{sent, refuses, Handling, leaving, handling}
 use Rattle.net_journey.specs.Net.{Net, goodNet, isThere, tableAt, withTable}
 use Rattle.net_journey.specs.Journey.{atZero, atNobody, refusedWith, station, named, addressee, handler, Course, unheard, refusal, onward}

@@ -9,18 +9,19 @@ use lib.ListN.{length}
 use Rattle.mop_block.specs.Block.{goodBlock, first, rollLeft, rollRight}
 use Rattle.mop_header.specs.Header.{Head, head, functionByte, telegramOf, bodyOf, markByte, withMark, remarked, rolledLeft, rolledRight}
 use Rattle.mop_header.specs.Header.{newControl, asReply, sentBack}
-use Rattle.mop_header.specs.Reading.{Reading, sound, allowed, goodFor, maxTelegram, reading}
-use Rattle.mop_header.specs.ReadBack.{sized, InOrder}
+use Rattle.mop_reader.specs.Reading.{Reading, sound, allowed, goodFor, maxTelegram, reading}
+use Rattle.mop_reader.specs.ReadBack.{sized, InOrder}
 use Rattle.mop_header.specs.declared.Function.{Function}
 use Rattle.mop_header.specs.declared.Function.the-variants.{Request, Reply}
 use Rattle.mop_header.specs.declared.Form.{Form}
 use Rattle.mop_header.specs.declared.Form.the-variants.{Standard, Extended}
-use Rattle.mop_header.specs.declared.Reader.the-variants.{Station}
-use Rattle.mop_header.proofs.Lengths.{length-remarked, headerRoom, length-header, header-bound}
+use Rattle.mop_reader.specs.declared.Reader.the-variants.{Station}
+use Rattle.mop_header.proofs.Lengths.{length-remarked, headerRoom, length-header}
+use Rattle.mop_reader.proofs.Sizes.{header-bound}
 use Rattle.mop_header.proofs.Marks.{remarked-agrees, remarked-block, marked-twice}
-use Rattle.mop_header.proofs.ReadBack.{reads-back, is-written, body-behind}
+use Rattle.mop_reader.proofs.ReadBack.{reads-back, is-written, body-behind}
 use Rattle.mop_header.proofs.Writing.{length-telegram}
-use Rattle.mop_station.specs.Step.{replied, maxReply}
+use Rattle.mop_step.specs.Step.{replied, maxReply}
 use Rattle.net_journey.specs.Terms.{shows, shownIn, shown, isFine, allFine}
 
 -- a telegram with the mark that its block asks for

@@ -8,24 +8,25 @@ use native.Mathlib.Omega.{arith}
 use lib.ListN.{length, replicate}
 use Rattle.base.proofs.Places.{take-placed}
 use Rattle.mop_registers.specs.Rows.{tableLength}
-use Rattle.mop_block.specs.Block.{isAddress, first, next}
+use Rattle.mop_block.specs.Block.{isAddress, first}
 use Rattle.mop_header.specs.Header.{Head, head, telegramOf, remarked, rolledLeft, rolledRight, newControl, asReply, sentBack}
-use Rattle.mop_header.specs.Reading.{sound, reading}
+use Rattle.mop_reader.specs.Reading.{sound, reading}
 use Rattle.mop_header.specs.declared.Form.{Form}
 use Rattle.mop_header.specs.declared.Function.{Function}
 use Rattle.mop_header.specs.declared.Function.the-variants.{Request, Reply}
-use Rattle.mop_header.specs.declared.Reader.the-variants.{Station}
+use Rattle.mop_reader.specs.declared.Reader.the-variants.{Station}
 use Rattle.mop_header.proofs.Marks.{agrees-remarked}
-use Rattle.mop_header.proofs.ReadBack.{is-written, body-behind}
-use Rattle.mop_station.specs.Body.{accepts, judgedBody, afterWrites, replyBody}
-use Rattle.mop_station.specs.Step.{Stepped, relays, answers, notMine, refuses, Step, isStation, relayed, replied, stepping, maxReply}
+use Rattle.mop_reader.proofs.ReadBack.{is-written, body-behind}
+use Rattle.mop_step.specs.Body.{accepts, judgedBody, afterWrites, replyBody}
+use Rattle.mop_step.specs.Step.{Stepped, relays, answers, notMine, refuses, Step, isStation, relayed, replied, stepping, maxReply}
 use Rattle.mop_station.specs.Station.{sendingBy, taking}
-use Rattle.mop_station.proofs.Answers.{length-after, reply-bound}
-use Rattle.mop_station.proofs.Cases.{act-either}
-use Rattle.mop_station.proofs.Steps.{for-this}
-use Rattle.mop_station.proofs.Telegrams.{is-station, heard}
+use Rattle.mop_step.proofs.Answers.{length-after, reply-bound}
+use Rattle.mop_step.proofs.Cases.{act-either}
+use Rattle.mop_step.proofs.Steps.{for-this}
+use Rattle.mop_station.proofs.Telegrams.{heard}
+use Rattle.mop_step.proofs.Stations.{is-station}
 use Rattle.net_journey.specs.Net.{Net, goodNet, isThere, tableAt, withTable}
-use Rattle.net_journey.specs.Journey.{atZero, atNobody, station, unheard, refusal, onward, callOutput}
+use Rattle.net_journey.specs.Journey.{atZero, atNobody, unheard, refusal, onward, callOutput}
 use Rattle.net_journey.specs.Bounded.{calling, called, heardBy, playing}
 use Rattle.net_journey.proofs.Net.{with-itself, good-with, good-table, good-address}
 use Rattle.net_journey.proofs.Telegrams.{Faultless, sound-faultless, reads-well, reply-short, relayed-left, relayed-right, replied-right}

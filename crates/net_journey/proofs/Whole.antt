@@ -10,10 +10,10 @@ use lib.ListN.{length, replicate}
 use Rattle.mop_block.specs.Block.{first}
 use Rattle.mop_block.proofs.Stations.{named-bound}
 use Rattle.mop_header.specs.Header.{Head, bodyOf}
-use Rattle.mop_header.specs.Reading.{Reading, sound, faulty, goodFor, reading}
-use Rattle.mop_header.specs.declared.Reader.the-variants.{Station}
-use Rattle.mop_header.proofs.Lengths.{sized-most}
-use Rattle.mop_header.proofs.ReadBack.{is-written}
+use Rattle.mop_reader.specs.Reading.{Reading, sound, faulty, goodFor, reading}
+use Rattle.mop_reader.specs.declared.Reader.the-variants.{Station}
+use Rattle.mop_reader.proofs.Sizes.{sized-most}
+use Rattle.mop_reader.proofs.ReadBack.{is-written}
 use Rattle.net_journey.specs.Net.{Net, goodNet, tableAt, withTable}
 use Rattle.net_journey.specs.Journey.{Ending, refusedWith, Course, unheard, callOutput, Journey}
 use Rattle.net_journey.specs.Terms.{m, beforeZeros, WrittenBy}
@@ -23,7 +23,7 @@ use Rattle.net_journey.specs.Bounded.{mostNamed, NamesAtMost31, mostTran
 use Rattle.net_journey.proofs.Net.{table-other, table-same, good-table}
 use Rattle.net_journey.proofs.Passage.{Carries}
 use Rattle.mop_header.specs.declared.Function.the-variants.{Request}
-use Rattle.mop_station.specs.Body.{afterWrites}
+use Rattle.mop_step.specs.Body.{afterWrites}
 use Rattle.net_journey.proofs.Calls.{call-fault}
 use Rattle.net_journey.proofs.Ring.{none-named, some-named}
 use Rattle.net_journey.proofs.Unique.{unique}

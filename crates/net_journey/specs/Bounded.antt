@@ -6,8 +6,8 @@ use mathlib.Core.Bool.{true}
 use mathlib.Core.List.{List}
 use lib.ListN.{length, take, replicate}
 use Rattle.mop_header.specs.Header.{Head}
-use Rattle.mop_header.specs.Reading.{sound, reading}
-use Rattle.mop_header.specs.declared.Reader.the-variants.{Station}
+use Rattle.mop_reader.specs.Reading.{sound, reading}
+use Rattle.mop_reader.specs.declared.Reader.the-variants.{Station}
 use Rattle.mop_station.specs.Station.{Handled, sent, notMine, refuses, Handling, handling}
 use Rattle.net_journey.specs.Net.{Net, goodNet}
 use Rattle.net_journey.specs.Journey.{atZero, atNobody, Handler, noStation, station, handler, Course, unheard, refusal, onward, callOutput, leftBy, Journey}

@@ -9,9 +9,9 @@ use lib.ListN.{length}
 use Rattle.mop_registers.specs.Rows.{tableLength}
 use Rattle.mop_block.specs.Block.{isAddress, stations, first}
 use Rattle.mop_header.specs.Header.{Head, bodyOf}
-use Rattle.mop_header.specs.Reading.{sound, faulty, reading}
-use Rattle.mop_header.specs.declared.Reader.the-variants.{Station}
-use Rattle.mop_station.specs.Body.{accepts, rejects, judgedBody, replyBody}
+use Rattle.mop_reader.specs.Reading.{sound, faulty, reading}
+use Rattle.mop_reader.specs.declared.Reader.the-variants.{Station}
+use Rattle.mop_step.specs.Body.{accepts, rejects, judgedBody, replyBody}
 use Rattle.mop_station.specs.Station.{Handled, sent, refuses, leaving, handling}
 use Rattle.net_journey.specs.Net.{Net, addressesOf, goodNet, isThere, allThere, upToMissing, tableAt, withTable}
 use Rattle.mop_header.specs.declared.Function.the-variants.{Request}

@@ -6,8 +6,8 @@ use mathlib.Core.List.{List, [], _∷_}
 use lib.ListN.{length, take}
 use Rattle.base.specs.Choice.{pick}
 use Rattle.mop_block.specs.Block.{first}
-use Rattle.mop_header.specs.Reading.{Reading, sound, faulty, reading}
-use Rattle.mop_header.specs.declared.Reader.the-variants.{Station}
+use Rattle.mop_reader.specs.Reading.{Reading, sound, faulty, reading}
+use Rattle.mop_reader.specs.declared.Reader.the-variants.{Station}
 use Rattle.mop_station.specs.Station.{Handled, sent, refuses, Handling, handling}
 use Rattle.net_journey.specs.Net.{Net, isThere, tableAt, withTable}
 

@@ -9,10 +9,10 @@ use lib.ListN.{length, getD}
 use Rattle.mop_registers.specs.Rows.{placeOf}
 use Rattle.mop_block.specs.Block.{stations, around, first}
 use Rattle.mop_header.specs.Header.{Head, bodyOf}
-use Rattle.mop_header.specs.Reading.{Reading, sound, faulty, reading}
+use Rattle.mop_reader.specs.Reading.{Reading, sound, faulty, reading}
 use Rattle.mop_header.specs.declared.Function.{Function}
 use Rattle.mop_header.specs.declared.Function.the-variants.{Request, Reply}
-use Rattle.mop_header.specs.declared.Reader.the-variants.{Station}
+use Rattle.mop_reader.specs.declared.Reader.the-variants.{Station}
 use Rattle.mop_body.specs.Body.{writeStart, valuesOf}
 use Rattle.mop_station.specs.Station.{Handled, sent, notMine, refuses}
 

@@ -6,10 +6,10 @@ use mathlib.Core.Bool.{true}
 use mathlib.Core.List.{List, [], _∷_, _++_, map}
 use Rattle.mop_block.specs.Block.{stations, rollLeft, rollRight}
 use Rattle.mop_header.specs.Header.{Head, head, telegramOf, bodyOf, remarked, newControl}
-use Rattle.mop_header.specs.Reading.{sound, reading}
+use Rattle.mop_reader.specs.Reading.{sound, reading}
 use Rattle.mop_header.specs.declared.Function.the-variants.{Request, Reply}
-use Rattle.mop_header.specs.declared.Reader.the-variants.{Station}
-use Rattle.mop_station.specs.Body.{accepts, judgedBody, replyBody}
+use Rattle.mop_reader.specs.declared.Reader.the-variants.{Station}
+use Rattle.mop_step.specs.Body.{accepts, judgedBody, replyBody}
 use Rattle.net_journey.specs.Net.{Net, goodNet, allThere, tableAt}
 use Rattle.net_journey.specs.Journey.{Course, Journey}
 use Rattle.net_journey.specs.Terms.{m, Fresh, destination}

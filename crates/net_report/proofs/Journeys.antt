@@ -4,8 +4,8 @@ use mathlib.Core.Path.{_∙_, ap}
 use Rattle.net_journey.specs.Journey.{Course}
 use Rattle.net_journey.specs.Bounded.{playing, mostTransmissions}
 use Rattle.net_journey.proofs.Whole.{every-journey, plays-the-journey}
-use Rattle.net_dry_run.specs.Tables.{netOf}
-use Rattle.net_dry_run.proofs.Tables.{good-net}
+use Rattle.net_hop.specs.Tables.{netOf}
+use Rattle.net_hop.proofs.Tables.{good-net}
 use Rattle.net_report.specs.Report.{tellsCourse, toldOf, TellsTheJourney}
 use Rattle.net_report.proofs.Reporting.{reports-rest}
 

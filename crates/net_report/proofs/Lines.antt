@@ -6,17 +6,18 @@ use Prim.Native.Nat.{ℕ, _+_, _≤_, _<_}
 use native.Mathlib.Numerals.{add-one}
 use lib.ListN.{length, getD, drop, drop-of-length-le}
 use lib.Seq.{drop-cons}
+use Rattle.base.proofs.Writing.{Splits}
 use Rattle.mop_header.specs.Header.{Head, functionByte}
-use Rattle.mop_header.specs.Reading.{sound, reading}
-use Rattle.mop_header.specs.declared.Reader.the-variants.{Station}
+use Rattle.mop_reader.specs.Reading.{sound, reading}
+use Rattle.mop_reader.specs.declared.Reader.the-variants.{Station}
 use Rattle.net_journey.specs.Journey.{Ending}
 use Rattle.net_report.specs.Text.{lineFeed, hexBytes, decimal, headLine, lineOf, line, sentText, endingText, closing}
 
 -- the bytes from place i on in hex: one of them, and what is left behind it
 module _ (bs : List ℕ) (i : ℕ) where
-  pub hex-next : (b : ℕ) → b ≡ getD bs i 0 → i < length bs → hexBytes (drop i bs) ≡ hexBytes (b ∷ []) ++ hexBytes (drop (i + 1) bs)
+  pub hex-next : (b : ℕ) → b ≡ getD bs i 0 → i < length bs → Splits (hexBytes (drop i bs)) (hexBytes (b ∷ [])) (hexBytes (drop (i + 1) bs))
   unfolding hexBytes
-  hex-next b e h = rw (add-one, drop-cons bs i 0 h, ← e)
+  hex-next b e h = record { is = rw (add-one, drop-cons bs i 0 h, ← e) }
 
   pub hex-end : length bs ≤ i → hexBytes (drop i bs) ≡ []
   unfolding hexBytes

@@ -9,26 +9,26 @@ use native.Mathlib.Numerals.{add-one}
 use native.Mathlib.Omega.{arith}
 use lib.ListN.{length, take, drop}
 use Rattle.base.specs.Filling.{filled}
-use Rattle.base.proofs.Places.{take-rest}
-use Rattle.mop_header.specs.Header.{Head, headOf, blockStart, headerLength, telegramOf, bodyOf}
+use Rattle.base.specs.Private.Writing.{Writing, writing}
+use Rattle.base.proofs.Writing.{Splits, behind, writing-call}
+use Rattle.mop_header.specs.Header.{Head, headOf, blockStart, headerLength, telegramOf}
 use Rattle.mop_header.specs.declared.Header.{Header}
-use Rattle.mop_header.specs.declared.Reader.the-variants.{Station}
-use Rattle.mop_header.specs.Reading.{sound, reading}
-use Rattle.mop_header.proofs.ReadBack.{is-written}
-use Rattle.mop_header.proofs.Lengths.{sized-most}
+use Rattle.mop_reader.specs.declared.Reader.the-variants.{Station}
+use Rattle.mop_reader.specs.Reading.{sound, reading}
+use Rattle.mop_reader.proofs.ReadBack.{is-written}
+use Rattle.mop_reader.proofs.Sizes.{sized-most}
 use Rattle.mop_station.specs.Station.{Handled}
 use Rattle.net_journey.specs.Net.{Net}
 use Rattle.net_journey.specs.Journey.{Ending, atZero, Course, onward}
 use Rattle.net_journey.specs.Bounded.{playing, mostTransmissions}
-use Rattle.net_dry_run.specs.Tables.{netOf, tablesOf, setUp}
-use Rattle.net_dry_run.specs.Private.Legs.{OnItsWay}
-use Rattle.net_dry_run.proofs.Tables.{same-tables}
-use Rattle.net_dry_run.proofs.Hops.{Goes, endedBy, Ends}
+use Rattle.net_hop.specs.Tables.{netOf, tablesOf, setUp}
+use Rattle.net_hop.specs.Private.Ways.{OnItsWay}
+use Rattle.net_hop.proofs.Tables.{same-tables}
+use Rattle.net_hop.proofs.Hops.{Goes, endedBy, Ends}
+use Rattle.net_hop.proofs.Lent.{whole-telegram}
 use Rattle.net_report.specs.Text.{headLine, line, lines, closing, courseText}
-use Rattle.net_report.specs.Writing.{Writing, writing}
 use Rattle.net_report.specs.Report.{Report, leaves, reportOutput, tellsCourse}
 use Rattle.net_report.specs.Private.Legs.{mostCharacters, restText, endsWith, telling, tellingFrom, ToldSoFar}
-use Rattle.net_report.proofs.Writing.{behind, goes-on}
 use Rattle.net_report.proofs.Lines.{line-read}
 use Rattle.net_report.proofs.Reporting.{tells-text}
 
@@ -39,12 +39,15 @@ few-entries {h = h} {body = body} w = sized-most (h .form) (length (h .block)) (
 
 -- the text as the next line and what is left behind it, and as the last line of a transmission and the closing
 module _ (told : ℕ) (tg : List ℕ) {h : Head} (order : reading Station tg ≡ sound h) where
-  next-line : (n : ℕ) (rest : Course) → restText told (onward tg n rest) ≡ headLine (told + 1) h ++ restText (told + 1) rest
+  next-line : (n : ℕ) (rest : Course) → Splits (restText told (onward tg n rest)) (headLine (told + 1) h) (restText (told + 1) rest)
   unfolding lines
   next-line n rest =
       let more = lines (told + 1 + 1) (rest .transmissions) in
-      rw (← line-read (told + 1) tg order, ← add-one (told + 1), add-suc told (length (rest .transmissions)), ← suc-add told (length (rest .transmissions)), ← add-one told)
-      (append-assoc (line (told + 1) tg) more (closing (told + 1 + length (rest .transmissions)) (rest .ending)))
+      record {
+        is =
+            rw (← line-read (told + 1) tg order, ← add-one (told + 1), add-suc told (length (rest .transmissions)), ← suc-add told (length (rest .transmissions)), ← add-one told)
+            (append-assoc (line (told + 1) tg) more (closing (told + 1 + length (rest .transmissions)) (rest .ending)));
+      }
 
   last-line : (given : List Handled) (net : Net) (e : Ending) → restText told (endedBy tg given net e) ≡ headLine (told + 1) h ++ closing (told + 1) e
   unfolding lines
@@ -100,7 +103,7 @@ module _ {x : Report} {addresses tables : List ℕ} {told at : ℕ} {out : List 
           room = omega (arith, s .room);
           whole =
               ap (λ (t : Writing). endsWith t (tablesOf (rest .after)))
-              (goes-on at (headLine (told + 1) h) (restText (told + 1) rest) (restText told (onward tg n rest)) out wrote (next-line told tg (s .way .order) n rest) refl)
+              (writing-call (next-line told tg (s .way .order) n rest) at out wrote refl)
               ∙ from-here one-less (p .plays calls);
         }
 
@@ -113,14 +116,6 @@ module _ (read : Header) (tg addresses tables : List ℕ) (order : reading Stati
   abbrev rest : List ℕ
   rest = take (length tg - n) (drop n tg)
 
-  whole-telegram : telegramOf (headOf read slice) rest ≡ tg
-  unfolding bodyOf
-  whole-telegram =
-      let h = headOf read (drop (blockStart (read .form)) tg) in
-      ap₂ telegramOf (ap (headOf read) (take-rest start tg ∙ ap (λ (k : ℕ). drop k tg) begins))
-      (take-rest n tg ∙ ap (λ (k : ℕ). drop k tg) (long (drop (blockStart (read .form)) tg)))
-      ∙ is-written Station tg h order .whole
-
   -- the whole text, since it has room
   pub journey-told : {end : ℕ} {after output : List ℕ} (out : List ℕ) → reportOutput ≤ length out →
       (leaves (filled end) after output ≡ tellingFrom 0 0 out (netOf addresses tables) (headOf read slice) rest) × (end ≤ reportOutput) →
@@ -129,7 +124,7 @@ module _ (read : Header) (tg addresses tables : List ℕ) (order : reading Stati
   journey-told {end} out room (e, within) =
       let c = playing mostTransmissions (netOf addresses tables) tg in
       let text = restText 0 c in
-      let same = rw whole-telegram at e in
+      let same = rw (whole-telegram read tg order begins long) at e in
       let given : filled end ≡ filled (0 + length text) = ap (λ (r : Report). r .given) same in
       let long : end ≡ 0 + length text = cc in
       same ∙ tells-text text (tablesOf (c .after)) out refl (omega (arith, long)) ∙ rw (zero-add (length (c .transmissions)))

@@ -1,4 +1,3 @@
 pub mod Text
-pub mod Writing
 pub mod Report
 pub mod Private

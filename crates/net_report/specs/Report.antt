@@ -12,12 +12,12 @@ use Rattle.base.specs.Filling.{Given, filled, refused}
 use Rattle.refusal.specs.Writing.{givenOf}
 use Rattle.refusal.specs.declared.WriteAnswer.{WriteAnswer}
 use Rattle.mop_header.specs.Header.{Head}
-use Rattle.mop_header.specs.Reading.{Reading, sound, faulty, reading}
-use Rattle.mop_header.specs.declared.Reader.the-variants.{Station}
+use Rattle.mop_reader.specs.Reading.{Reading, sound, faulty, reading}
+use Rattle.mop_reader.specs.declared.Reader.the-variants.{Station}
 use Rattle.net_journey.specs.Journey.{Course}
 use Rattle.net_journey.specs.Demand3.{TheJourney}
 use Rattle.net_journey.specs.Bounded.{playing, mostTransmissions}
-use Rattle.net_dry_run.specs.Tables.{netOf, tablesOf, setUp}
+use Rattle.net_hop.specs.Tables.{netOf, tablesOf, setUp}
 use Rattle.net_report.specs.Text.{courseText, outrightText}
 
 -- what is given back, the length of the text or a refusal, and the tables and the output afterwards

@@ -1,10 +1,10 @@
 // The text that tells the journey of a telegram, as the program prints it.
 use mop_header::Header;
-use mop_header::HeaderRead;
-use mop_header::Reader;
-use mop_station::REPLY_BODY;
-use net_dry_run::HopAnswer;
-use net_dry_run::JourneyEnd;
+use mop_reader::HeaderRead;
+use mop_reader::Reader;
+use mop_step::REPLY_BODY;
+use net_hop::HopAnswer;
+use net_hop::JourneyEnd;
 use refusal::Refusal;
 use refusal::WriteAnswer;
 ghost use mathlib.Core.Path.{_≡_};
@@ -13,17 +13,17 @@ ghost use mathlib.Core.Bool.{true};
 ghost use mathlib.Core.List.{[], _∷_};
 ghost use lib.ListN.{length, drop};
 ghost use Rattle.base.specs.Filling.{filled};
+ghost use Rattle.base.specs.Private.Writing.{writing, writingOf};
 ghost use Rattle.refusal.specs.Numbers.{numberOf};
-ghost use Rattle.mop_header.specs.Header.{maxEntries, headOf, blockStart};
-ghost use Rattle.mop_header.specs.Reading.{sound, reading};
-ghost use Rattle.mop_header.specs.declared.Reader.the-variants.{Station};
-ghost use Rattle.mop_station.specs.Step.{maxReply};
+ghost use Rattle.mop_header.specs.Header.{headOf, blockStart};
+ghost use Rattle.mop_reader.specs.Reading.{sound, maxEntries, reading};
+ghost use Rattle.mop_reader.specs.declared.Reader.the-variants.{Station};
+ghost use Rattle.mop_step.specs.Step.{maxReply};
 ghost use Rattle.net_journey.specs.Bounded.{playing, mostTransmissions};
-ghost use Rattle.net_dry_run.specs.Tables.{netOf, setUp};
-ghost use Rattle.net_dry_run.specs.Hop.{placesOf, endingOf};
-ghost use Rattle.net_dry_run.specs.Private.Legs.{OnItsWay};
+ghost use Rattle.net_hop.specs.Tables.{netOf, setUp};
+ghost use Rattle.net_hop.specs.Hop.{placesOf, endingOf};
+ghost use Rattle.net_hop.specs.Private.Ways.{OnItsWay};
 ghost use Rattle.net_report.specs.Text.{hexDigit, hexBytes, decimal, headLine, refusedText, endingText, closing, outrightText};
-ghost use Rattle.net_report.specs.Writing.{leftAt, writing};
 ghost use Rattle.net_report.specs.Report.{leaves, reportOf, reportOutput, tellsCourse, reporting};
 ghost use Rattle.net_report.specs.Private.Legs.{mostCharacters, tellingFrom, LegBy};
 
@@ -46,7 +46,7 @@ fn hex_digit(n: u8) -> u8
 // A byte in two hex digits, behind a space.
 fn write_byte(b: u8, out: &mut [u8], at: usize) -> usize
     requires { ⌜ at + 3 ≤ length (now out) ⌝ }
-    ensures { λ r. ⌜ leftAt r (now (out .exit)) ≡ writing at (hexBytes (b ∷ [])) (now (out .entry)) ⌝ }
+    ensures { λ r. ⌜ writingOf r (now (out .exit)) ≡ writing at (hexBytes (b ∷ [])) (now (out .entry)) ⌝ }
     ensures { λ r. ⌜ r ≤ at + 3 ⌝ }
 {
     let high = hex_digit(b / 16);
@@ -60,7 +60,7 @@ fn write_byte(b: u8, out: &mut [u8], at: usize) -> usize
 // The entries of a header's block in hex.
 fn write_entries(header: Header, block: &[u8], out: &mut [u8], at: usize) -> usize
     requires { ⌜ at + 3 * length (headOf header (now block) .block) ≤ length (now out) ⌝ }
-    ensures { λ r. ⌜ leftAt r (now (out .exit)) ≡ writing at (hexBytes (headOf header (now (block .entry)) .block)) (now (out .entry)) ⌝ }
+    ensures { λ r. ⌜ writingOf r (now (out .exit)) ≡ writing at (hexBytes (headOf header (now (block .entry)) .block)) (now (out .entry)) ⌝ }
     ensures { λ r. ⌜ r ≤ at + 3 * length (headOf header (now (block .entry)) .block) ⌝ }
 {
     let n = header.entry_count();
@@ -76,7 +76,7 @@ fn write_entries(header: Header, block: &[u8], out: &mut [u8], at: usize) -> usi
 // A number in decimal; each that is told is under 100.
 fn write_decimal(n: u8, out: &mut [u8], at: usize) -> usize
     requires { ⌜ at + 2 ≤ length (now out) ⌝ }
-    ensures { λ r. ⌜ leftAt r (now (out .exit)) ≡ writing at (decimal n) (now (out .entry)) ⌝ }
+    ensures { λ r. ⌜ writingOf r (now (out .exit)) ≡ writing at (decimal n) (now (out .entry)) ⌝ }
     ensures { λ r. ⌜ r ≤ at + 2 ⌝ }
 {
     if n < 10 {
@@ -92,7 +92,7 @@ fn write_decimal(n: u8, out: &mut [u8], at: usize) -> usize
 fn write_line(number: u8, header: Header, block: &[u8], out: &mut [u8], at: usize) -> usize
     requires { ⌜ length (headOf header (now block) .block) ≤ maxEntries ⌝ }
     requires { ⌜ at + mostCharacters ≤ length (now out) ⌝ }
-    ensures { λ r. ⌜ leftAt r (now (out .exit)) ≡ writing at (headLine number (headOf header (now (block .entry)))) (now (out .entry)) ⌝ }
+    ensures { λ r. ⌜ writingOf r (now (out .exit)) ≡ writing at (headLine number (headOf header (now (block .entry)))) (now (out .entry)) ⌝ }
     ensures { λ r. ⌜ r ≤ at + mostCharacters ⌝ }
 {
     let function = header.function;
@@ -106,7 +106,7 @@ fn write_line(number: u8, header: Header, block: &[u8], out: &mut [u8], at: usiz
 // "refused " and the refusal's number.
 fn write_refused(refusal: Refusal, out: &mut [u8], at: usize) -> usize
     requires { ⌜ at + 10 ≤ length (now out) ⌝ }
-    ensures { λ r. ⌜ leftAt r (now (out .exit)) ≡ writing at (refusedText (numberOf refusal)) (now (out .entry)) ⌝ }
+    ensures { λ r. ⌜ writingOf r (now (out .exit)) ≡ writing at (refusedText (numberOf refusal)) (now (out .entry)) ⌝ }
     ensures { λ r. ⌜ r ≤ at + 10 ⌝ }
 {
     places::put(b"refused ", &mut *out, at);
@@ -116,7 +116,7 @@ fn write_refused(refusal: Refusal, out: &mut [u8], at: usize) -> usize
 // What follows the count.
 fn write_ending(end: JourneyEnd, out: &mut [u8], at: usize) -> usize
     requires { ⌜ at + 11 ≤ length (now out) ⌝ }
-    ensures { λ r. ⌜ leftAt r (now (out .exit)) ≡ writing at (endingText (endingOf end)) (now (out .entry)) ⌝ }
+    ensures { λ r. ⌜ writingOf r (now (out .exit)) ≡ writing at (endingText (endingOf end)) (now (out .entry)) ⌝ }
     ensures { λ r. ⌜ r ≤ at + 11 ⌝ }
 {
     match end {
@@ -132,7 +132,7 @@ fn write_ending(end: JourneyEnd, out: &mut [u8], at: usize) -> usize
 // The last line of a journey.
 fn write_closing(count: u8, end: JourneyEnd, out: &mut [u8], at: usize) -> usize
     requires { ⌜ at + 19 ≤ length (now out) ⌝ }
-    ensures { λ r. ⌜ leftAt r (now (out .exit)) ≡ writing at (closing count (endingOf end)) (now (out .entry)) ⌝ }
+    ensures { λ r. ⌜ writingOf r (now (out .exit)) ≡ writing at (closing count (endingOf end)) (now (out .entry)) ⌝ }
     ensures { λ r. ⌜ r ≤ at + 19 ⌝ }
 {
     places::put(b"sent ", &mut *out, at);
@@ -145,7 +145,7 @@ fn write_closing(count: u8, end: JourneyEnd, out: &mut [u8], at: usize) -> usize
 // The whole text of a call that is refused outright.
 fn write_outright(refusal: Refusal, out: &mut [u8]) -> usize
     requires { ⌜ 11 ≤ length (now out) ⌝ }
-    ensures { λ r. ⌜ leftAt r (now (out .exit)) ≡ writing 0 (outrightText (numberOf refusal)) (now (out .entry)) ⌝ }
+    ensures { λ r. ⌜ writingOf r (now (out .exit)) ≡ writing 0 (outrightText (numberOf refusal)) (now (out .entry)) ⌝ }
     ensures { λ r. ⌜ r ≤ 11 ⌝ }
 {
     let place = write_refused(refusal, &mut *out, 0);
@@ -179,17 +179,17 @@ fn write_leg(
     requires { ⌜ reportOutput ≤ length (now out) ⌝ }
     ensures { λ r. ⌜ LegBy (tellingFrom before at (now (out .entry)) (netOf (now (addresses .entry)) (now (tables .entry))) (headOf first (now (block .entry))) (now (body .entry))) (now (addresses .entry)) (first .function) (now (block .entry)) (now (tables .exit)) (now (reply .exit)) (now (out .exit)) r ⌝ }
 {
-    let places = net_dry_run::places_of(addresses);
+    let places = net_hop::places_of(addresses);
     let mut header = first;
     let mut told = before;
     let mut place = at;
     loop {
         told += 1;
         place = write_line(told, header, block, &mut *out, place);
-        if net_dry_run::MOST_TRANSMISSIONS < told as usize {
+        if net_hop::MOST_TRANSMISSIONS < told as usize {
             return LegEnd::Told(write_closing(told, JourneyEnd::AtZero, &mut *out, place));
         }
-        match net_dry_run::hop(header, block, body, &places, &mut *tables, &mut *reply) {
+        match net_hop::hop(header, block, body, &places, &mut *tables, &mut *reply) {
             HopAnswer::Relayed(h) => header = h,
             HopAnswer::Answered(h, n) => return LegEnd::Answered(h, n, told, place),
             HopAnswer::Ended(e) => return LegEnd::Told(write_closing(told, e, &mut *out, place)),
@@ -258,10 +258,10 @@ pub fn report(telegram: &[u8], addresses: &[u8], tables: &mut [u16], out: &mut [
     if out.len() < REPORT_OUTPUT {
         return WriteAnswer::Refused(Refusal::OutputShort);
     }
-    if !net_dry_run::is_set_up(addresses, &*tables) {
+    if !net_hop::is_set_up(addresses, &*tables) {
         return WriteAnswer::Written(write_outright(Refusal::Setup, &mut *out));
     }
-    match mop_header::read(Reader::Station, telegram) {
+    match mop_reader::read(Reader::Station, telegram) {
         HeaderRead::Fault(refusal) => WriteAnswer::Written(write_outright(refusal, &mut *out)),
         HeaderRead::Fine(header) => {
             WriteAnswer::Written(write_journey(

@@ -2,8 +2,8 @@
 -- Assumes nothing.
 use Rattle.net_dry_run.proofs.DryRuns.{not-set-up, too-long, output-short, run-by}
 use Rattle.net_dry_run.specs.DryRun.{runOf}
-use Rattle.mop_header.specs.declared.HeaderRead.{HeaderRead}
-use Rattle.mop_header.specs.Reading.{readingOf}
+use Rattle.mop_reader.specs.declared.HeaderRead.{HeaderRead}
+use Rattle.mop_reader.specs.Reading.{readingOf}
 use borrow.Author.Tests.{not-true, not-false}
 use mathlib.Core.Path.{sym, _∙_, ap}
 use borrow.Author.Needs.{needs}

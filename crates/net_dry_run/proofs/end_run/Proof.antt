@@ -2,7 +2,7 @@
 -- Assumes nothing.
 use Rattle.net_dry_run.proofs.Outputs.{written-room, last-output}
 use Rattle.net_dry_run.specs.DryRun.{played}
-use Rattle.net_dry_run.specs.Hop.{endingOf}
+use Rattle.net_hop.specs.Hop.{endingOf}
 use Rattle.mop_header.proofs.Writing.{length-telegram}
 use Rattle.mop_header.specs.Header.{headOf, telegramOf}
 use Rattle.base.proofs.Filling.{fitted-room}

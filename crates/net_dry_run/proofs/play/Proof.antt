@@ -1,10 +1,11 @@
 -- `play`: the block, and the body behind the header.
 -- Assumes nothing.
-use Rattle.net_dry_run.proofs.Legs.{sets-out, whole-run}
+use Rattle.net_dry_run.proofs.Legs.{whole-run}
+use Rattle.net_hop.proofs.Ways.{sets-out}
 use mathlib.Core.Path.{_∙_}
-use Rattle.mop_header.proofs.ReadBack.{sound-room}
+use Rattle.mop_reader.proofs.ReadBack.{sound-room}
 use Rattle.mop_header.proofs.Lengths.{start-within}
-use Rattle.mop_header.specs.declared.Reader.the-variants.{Station}
+use Rattle.mop_reader.specs.declared.Reader.the-variants.{Station}
 use Rattle.mop_header.specs.Header.{blockStart}
 use lib.ListN.{drop}
 use native.Mathlib.Omega.{arith}

@@ -15,7 +15,7 @@ use Rattle.net_dry_run.proofs.run.Statement.{statement}
 use Rattle.net_dry_run.proofs.run.Tie as tie
 use Rattle.net_dry_run.proofs.run.Reads as reads
 use Rattle.net_dry_run.proofs.run.Lts as lts
-use Rattle.net_dry_run.proofs.places_of.Reads as places-of-reads
+use Rattle.net_hop.proofs.places_of.Reads as places-of-reads
 use Rattle.net_dry_run.proofs.walk.Reads as walk-reads
 use Rattle.net_dry_run.proofs.end_run.Reads as end-run-reads
 use Rattle.net_dry_run.proofs.go_home.Reads as go-home-reads

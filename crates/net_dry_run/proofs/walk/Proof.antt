@@ -7,15 +7,15 @@ use borrow.Author.Needs.{needs}
 use lib.ListN.{length}
 use Rattle.mop_header.specs.Header.{headOf}
 use Rattle.net_journey.specs.Bounded.{mostTransmissions}
-use Rattle.net_dry_run.specs.Hop.{hopOf}
-use Rattle.net_dry_run.specs.declared.HopAnswer.{HopAnswer}
-use Rattle.net_dry_run.proofs.Hops.{Means, means-as, answered-count}
+use Rattle.net_hop.specs.Hop.{hopOf}
+use Rattle.net_hop.specs.declared.HopAnswer.{HopAnswer}
+use Rattle.net_hop.proofs.Hops.{Means, means-as, answered-count}
 use Rattle.net_dry_run.proofs.Legs.{Onward, leg-begins, leg-goes-on, leg-turns, leg-ends, leg-over}
 use Rattle.net_dry_run.proofs.walk.Statement.{statement}
 use Rattle.net_dry_run.proofs.walk.Tie as tie
 use Rattle.net_dry_run.proofs.walk.Reads as reads
 use Rattle.net_dry_run.proofs.walk.Lts as lts
-use Rattle.net_dry_run.proofs.hop.Reads as hop-reads
+use Rattle.net_hop.proofs.hop.Reads as hop-reads
 
 abbrev Inv-loop : tie.InvT-loop
 Inv-loop block body before places addresses tables₀ reply₀ header₀ gone₀ tables reply header gone =

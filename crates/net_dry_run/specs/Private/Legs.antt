@@ -7,15 +7,14 @@ use mathlib.Core.List.{List}
 use lib.ListN.{length, take}
 use Rattle.base.specs.Places.{placed}
 use Rattle.mop_header.specs.Header.{Head, telegramOf}
-use Rattle.mop_header.specs.Reading.{sound, reading}
-use Rattle.mop_header.specs.declared.Reader.the-variants.{Station}
 use Rattle.mop_header.specs.declared.Function.the-variants.{Request, Reply}
 use Rattle.net_journey.specs.Net.{Net}
 use Rattle.net_journey.specs.Journey.{Ending, Course}
 use Rattle.net_journey.specs.Terms.{lastTelegram}
 use Rattle.net_journey.specs.Bounded.{playing, mostTransmissions}
-use Rattle.net_dry_run.specs.Tables.{netOf, tablesOf, setUp}
-use Rattle.net_dry_run.specs.Hop.{endingOf, placesOf}
+use Rattle.net_hop.specs.Tables.{netOf, tablesOf, setUp}
+use Rattle.net_hop.specs.Hop.{endingOf}
+use Rattle.net_hop.specs.Private.Ways.{OnItsWay}
 use Rattle.net_dry_run.specs.DryRun.{played, DryRun, leaves, runOutput, padded}
 use Rattle.net_dry_run.specs.declared.Halt.{Halt}
 use Rattle.net_dry_run.specs.declared.Halt.the-variants.{Ended, Answered}
@@ -35,13 +34,6 @@ summaryOf gone c =
 -- of what is left of a journey, before which so many were made, from a telegram with this header and this body on
 abbrev pub summaryFrom : ℕ → Net → Head → List ℕ → Summary
 summaryFrom gone net h body = summaryOf gone (playing (mostTransmissions - gone) net (telegramOf h body))
-
--- a telegram without a fault on its way in a net that is set up rightly, whose places are known
-pub record OnItsWay (addresses places tables : List ℕ) (gone : ℕ) (h : Head) (body : List ℕ) : Type 0 where
-  pub set : setUp addresses tables ≡ true
-  pub known : places ≡ placesOf addresses
-  pub order : reading Station (telegramOf h body) ≡ sound h
-  pub most : gone ≤ mostTransmissions
 
 -- where a leg that began with h and this body came to an end: of the journey
 pub record LegEnds (addresses tables : List ℕ) (before : ℕ) (h : Head) (body after : List ℕ) (gone : ℕ) (g : Head) (e : Ending) : Type 0 where

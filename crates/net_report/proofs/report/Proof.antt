@@ -5,7 +5,7 @@ use mathlib.Core.Bool.{true}
 use native.Mathlib.Omega.{arith}
 use borrow.Author.Tests.{not-true, not-false}
 use Rattle.refusal.specs.Numbers.{numberOf}
-use Rattle.net_dry_run.specs.Tables.{setUp}
+use Rattle.net_hop.specs.Tables.{setUp}
 use Rattle.net_report.specs.Text.{outrightText}
 use Rattle.net_report.specs.Report.{toldOf}
 use Rattle.net_report.proofs.Reporting.{reports-short, reports-unfit, reports-rest, tells-text}

@@ -5,10 +5,10 @@ use mathlib.Core.List.{List, [], _∷_, _++_}
 use Prim.Native.Nat.{ℕ}
 use native.Mathlib.Omega.{arith}
 use lib.ListN.{length-set}
-use Rattle.net_dry_run.specs.Hop.{endingOf}
+use Rattle.base.specs.Private.Writing.{writing}
+use Rattle.base.proofs.Writing.{behind, behind-copy, behind-store}
+use Rattle.net_hop.specs.Hop.{endingOf}
 use Rattle.net_report.specs.Text.{space, lineFeed, decimal, sentText, endingText}
-use Rattle.net_report.specs.Writing.{writing}
-use Rattle.net_report.proofs.Writing.{behind, worded, stored}
 use Rattle.net_report.proofs.Lines.{closing-parts}
 use borrow.Author.Needs.{needs}
 use Rattle.net_report.proofs.write_closing.Statement.{statement}
@@ -44,9 +44,9 @@ returns c =
     let a = c .before .before .before .before .before .before .before .before .before .before .before .before .before .before .args in
     let out = a .out .now in
     let ending = endingText (endingOf (a .end)) in
-    let sent = worded (a .at) (0x73 ∷ 0x65 ∷ 0x6E ∷ 0x74 ∷ space ∷ []) (decimal (a .count)) out (c .before .before .before .before .before .before .before .before .before .before .put .ensures) (c .before .before .before .before .before .before .write-decimal .ensures .0) in
+    let sent = behind-copy (a .at) (0x73 ∷ 0x65 ∷ 0x6E ∷ 0x74 ∷ space ∷ []) (decimal (a .count)) out (c .before .before .before .before .before .before .before .before .before .before .put .ensures) (c .before .before .before .before .before .before .write-decimal .ensures .0) in
     let both = behind (a .at) (sentText (a .count)) ending out sent (c .before .before .write-ending .ensures .0) in
-    (stored (a .at) (sentText (a .count) ++ ending) lineFeed out both ∙ ap (λ (text : List ℕ). writing (a .at) text out) (closing-parts (a .count) (endingOf (a .end))), omega arith)
+    (behind-store (a .at) (sentText (a .count) ++ ending) lineFeed out both ∙ ap (λ (text : List ℕ). writing (a .at) text out) (closing-parts (a .count) (endingOf (a .end))), omega arith)
 
 pub write-closing-spec : {M : Type 1} → statement M
 write-closing-spec =

@@ -3,9 +3,8 @@
 use mathlib.Core.Path.{refl, _∙_, _≡_}
 use lib.ListN.{length, drop}
 use Prim.Native.Nat.{_+_, _*_, _≤_, _-_}
-use Rattle.net_report.specs.Writing.{writing}
-use mathlib.Core.List.{[], _∷_}
-use Rattle.net_report.proofs.Writing.{goes-on, all-written}
+use Rattle.base.specs.Private.Writing.{writing}
+use Rattle.base.proofs.Writing.{writing-call, writing-end}
 use Rattle.net_report.proofs.Lines.{hex-next, hex-end}
 use native.Mathlib.Omega.{arith}
 use borrow.Author.Needs.{needs}
@@ -52,7 +51,7 @@ loop-again c =
       omega arith,
       omega (arith, p .ensures .1),
       p .kept .1 .0 ∙ v .inv .3,
-      goes-on (v .place) (hexBytes (b .result ∷ [])) (hexBytes (drop (v .i + 1) block)) (hexBytes (drop (v .i) block)) (v .out) (p .ensures .0) next (v .inv .4),
+      writing-call next (v .place) (v .out) (p .ensures .0) (v .inv .4),
     )
 
 same-length : tie.Need-same-length Inv-loop μ-loop
@@ -63,7 +62,7 @@ returns c =
     let v = c .before .loop in
     let a = c .before .before .before .before .before .args in
     let block = headOf (a .header) (a .block .now) .block in
-    (all-written (v .place) (hexBytes (drop (v .i) block)) (v .out) (hex-end block (v .i) (omega arith)) (v .inv .4), omega arith)
+    (writing-end (hex-end block (v .i) (omega arith)) (v .place) (v .out) (v .inv .4), omega arith)
 
 pub write-entries-spec : {M : Type 1} → statement M
 write-entries-spec =

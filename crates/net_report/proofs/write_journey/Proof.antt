@@ -6,10 +6,10 @@ use native.Mathlib.Nat.{sub-zero}
 use native.Mathlib.Omega.{arith}
 use lib.ListN.{drop}
 use Rattle.mop_header.specs.Header.{blockStart}
-use Rattle.mop_header.specs.declared.Reader.the-variants.{Station}
-use Rattle.mop_header.proofs.ReadBack.{sound-room}
+use Rattle.mop_reader.specs.declared.Reader.the-variants.{Station}
+use Rattle.mop_reader.proofs.ReadBack.{sound-room}
 use Rattle.mop_header.proofs.Lengths.{start-within}
-use Rattle.net_dry_run.proofs.Legs.{sets-out}
+use Rattle.net_hop.proofs.Ways.{sets-out}
 use Rattle.net_report.proofs.Telling.{journey-told}
 use borrow.Author.Needs.{needs}
 use Rattle.net_report.proofs.write_journey.Statement.{statement}

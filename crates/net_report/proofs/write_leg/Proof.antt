@@ -6,12 +6,12 @@ use native.Mathlib.Omega.{arith}
 use borrow.Author.Needs.{needs}
 use lib.ListN.{length}
 use Rattle.mop_header.specs.Header.{headOf}
-use Rattle.mop_station.specs.Step.{maxReply}
+use Rattle.mop_step.specs.Step.{maxReply}
 use Rattle.net_journey.specs.Bounded.{mostTransmissions}
-use Rattle.net_dry_run.specs.Tables.{netOf}
-use Rattle.net_dry_run.specs.Hop.{hopOf}
-use Rattle.net_dry_run.specs.declared.HopAnswer.{HopAnswer}
-use Rattle.net_dry_run.proofs.Hops.{Means, means-as, answered-count}
+use Rattle.net_hop.specs.Tables.{netOf}
+use Rattle.net_hop.specs.Hop.{hopOf}
+use Rattle.net_hop.specs.declared.HopAnswer.{HopAnswer}
+use Rattle.net_hop.proofs.Hops.{Means, means-as, answered-count}
 use Rattle.net_report.specs.Private.Legs.{tellingFrom, ToldSoFar}
 use Rattle.net_report.proofs.Telling.{few-entries, told-over, told-end, told-on}
 use Rattle.net_report.proofs.write_leg.Statement.{statement}

@@ -5,10 +5,10 @@ use mathlib.Core.List.{List, [], _∷_, _++_}
 use Prim.Native.Nat.{ℕ}
 use native.Mathlib.Omega.{arith}
 use lib.ListN.{length-set}
+use Rattle.base.specs.Private.Writing.{writing}
+use Rattle.base.proofs.Writing.{behind, behind-store}
 use Rattle.mop_header.specs.Header.{headOf}
 use Rattle.net_report.specs.Text.{lineFeed, hexBytes, decimal}
-use Rattle.net_report.specs.Writing.{writing}
-use Rattle.net_report.proofs.Writing.{behind, stored}
 use Rattle.net_report.proofs.Lines.{line-parts}
 use borrow.Author.Needs.{needs}
 use Rattle.net_report.proofs.write_line.Statement.{statement}
@@ -48,7 +48,7 @@ returns c =
     let rest = hexBytes (h .block) in
     let begun = behind (a .at) number first out (at-function-byte .before .before .before .write-decimal .ensures .0) (c .before .before .before .before .before .before .write-byte .ensures .0) in
     let all = behind (a .at) (number ++ first) rest out begun (c .before .before .write-entries .ensures .0) in (
-      stored (a .at) ((number ++ first) ++ rest) lineFeed out all
+      behind-store (a .at) ((number ++ first) ++ rest) lineFeed out all
           ∙ ap (λ (text : List ℕ). writing (a .at) text out) (line-parts (a .number) h (f .result) (f .ensures)),
       omega arith,
     )

@@ -1,9 +1,9 @@
 -- `write_outright`: the end of the line behind the refusal.
 -- Assumes nothing.
 use native.Mathlib.Omega.{arith}
+use Rattle.base.proofs.Writing.{behind-store}
 use Rattle.refusal.specs.Numbers.{numberOf}
 use Rattle.net_report.specs.Text.{lineFeed, refusedText, outrightText}
-use Rattle.net_report.proofs.Writing.{stored}
 use borrow.Author.Needs.{needs}
 use Rattle.net_report.proofs.write_outright.Statement.{statement}
 use Rattle.net_report.proofs.write_outright.Tie as tie
@@ -24,7 +24,7 @@ returns : tie.Need-returns
 unfolding outrightText
 returns c =
     let a = c .before .before .before .before .before .args in
-    (stored 0 (refusedText (numberOf (a .refusal))) lineFeed (a .out .now) (c .before .before .write-refused .ensures .0), omega arith)
+    (behind-store 0 (refusedText (numberOf (a .refusal))) lineFeed (a .out .now) (c .before .before .write-refused .ensures .0), omega arith)
 
 pub write-outright-spec : {M : Type 1} → statement M
 write-outright-spec =

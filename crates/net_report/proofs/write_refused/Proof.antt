@@ -3,8 +3,8 @@
 use mathlib.Core.List.{List, [], _∷_}
 use Prim.Native.Nat.{ℕ}
 use native.Mathlib.Omega.{arith}
+use Rattle.base.proofs.Writing.{behind-copy}
 use Rattle.net_report.specs.Text.{space, decimal, refusedText}
-use Rattle.net_report.proofs.Writing.{worded}
 use borrow.Author.Needs.{needs}
 use Rattle.net_report.proofs.write_refused.Statement.{statement}
 use Rattle.net_report.proofs.write_refused.Tie as tie
@@ -34,7 +34,7 @@ returns c =
     let k = c .before .before .before .before .number in
     let d = c .before .before .write-decimal .ensures in
     let word : List ℕ = 0x72 ∷ 0x65 ∷ 0x66 ∷ 0x75 ∷ 0x73 ∷ 0x65 ∷ 0x64 ∷ space ∷ [] in
-    (rw (← k .ensures) (worded (a .at) word (decimal (k .result)) (a .out .now) (c .before .before .before .before .before .before .before .put .ensures) (d .0)), omega (arith, d .1))
+    (rw (← k .ensures) (behind-copy (a .at) word (decimal (k .result)) (a .out .now) (c .before .before .before .before .before .before .before .put .ensures) (d .0)), omega (arith, d .1))
 
 pub write-refused-spec : {M : Type 1} → statement M
 write-refused-spec =

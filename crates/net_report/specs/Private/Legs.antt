@@ -5,17 +5,17 @@ use mathlib.Core.Path.{_≡_}
 use mathlib.Core.List.{List, _++_}
 use lib.ListN.{length, take}
 use Rattle.base.specs.Filling.{filled}
+use Rattle.base.specs.Private.Writing.{Writing, writing}
 use Rattle.mop_header.specs.Header.{Head, headOf, telegramOf}
 use Rattle.mop_header.specs.declared.Function.{Function}
 use Rattle.mop_header.specs.declared.Function.the-variants.{Request, Reply}
 use Rattle.net_journey.specs.Net.{Net}
 use Rattle.net_journey.specs.Journey.{Course}
 use Rattle.net_journey.specs.Bounded.{playing, mostTransmissions}
-use Rattle.net_dry_run.specs.Tables.{netOf, tablesOf}
-use Rattle.net_dry_run.specs.Hop.{placesOf}
-use Rattle.net_dry_run.specs.Private.Legs.{OnItsWay}
+use Rattle.net_hop.specs.Tables.{netOf, tablesOf}
+use Rattle.net_hop.specs.Hop.{placesOf}
+use Rattle.net_hop.specs.Private.Ways.{OnItsWay}
 use Rattle.net_report.specs.Text.{lines, closing}
-use Rattle.net_report.specs.Writing.{Writing, writing}
 use Rattle.net_report.specs.Report.{Report, leaves, reportOutput}
 use Rattle.net_report.specs.declared.LegEnd.{LegEnd}
 use Rattle.net_report.specs.declared.LegEnd.the-variants.{Told, Answered}

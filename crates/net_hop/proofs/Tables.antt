@@ -14,9 +14,8 @@ use Rattle.base.specs.Choice.{pick}
 use Rattle.mop_registers.specs.Rows.{tableLength}
 use Rattle.mop_block.specs.Block.{has, distinctAddresses}
 use Rattle.net_journey.specs.Net.{NetStation, Net, addressesOf, rightTables, goodNet, isThere, tableAt, withTable}
-use Rattle.net_dry_run.specs.Tables.{netOf, tablesOf, maxStations, tablesFit, setUp}
-use Rattle.net_dry_run.specs.Hop.{tableOf, putTable}
-use Rattle.net_dry_run.specs.DryRun.{SameTables}
+use Rattle.net_hop.specs.Tables.{netOf, tablesOf, maxStations, tablesFit, setUp, SameTables}
+use Rattle.net_hop.specs.Hop.{tableOf, putTable}
 
 module _ (addresses tables : List ℕ) where
   -- tables that fit have the right length

@@ -1,13 +1,11 @@
 -- `is_set_up`: not too many, a table for each, and then the addresses.
 -- Assumes nothing.
-use Rattle.net_dry_run.proofs.Tables.{too-many, unfit, addresses-decide}
+use Rattle.net_hop.proofs.Tables.{too-many, unfit, addresses-decide}
 use Rattle.mop_registers.proofs.Places.{table-length}
 use mathlib.Core.Path.{sym, _∙_}
-use Rattle.net_dry_run.proofs.Tables.{too-many}
-use mathlib.Core.Path.{sym, _∙_}
 use borrow.Author.Needs.{needs}
-use Rattle.net_dry_run.proofs.is_set_up.Statement.{statement}
-use Rattle.net_dry_run.proofs.is_set_up.Tie as tie
+use Rattle.net_hop.proofs.is_set_up.Statement.{statement}
+use Rattle.net_hop.proofs.is_set_up.Tie as tie
 
 returns : tie.Need-returns
 returns c =

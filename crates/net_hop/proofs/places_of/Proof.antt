@@ -6,11 +6,11 @@ use native.Mathlib.Omega.{arith}
 use borrow.Author.Needs.{needs}
 use lib.ListN.{length, take, drop, length-take}
 use lib.Seq.{getD-take}
-use Rattle.net_dry_run.specs.Tables.{maxStations}
-use Rattle.net_dry_run.specs.Hop.{placing, bytes, placesOf}
-use Rattle.net_dry_run.proofs.Places.{place-step, place-none}
-use Rattle.net_dry_run.proofs.places_of.Statement.{statement}
-use Rattle.net_dry_run.proofs.places_of.Tie as tie
+use Rattle.net_hop.specs.Tables.{maxStations}
+use Rattle.net_hop.specs.Hop.{placing, bytes, placesOf}
+use Rattle.net_hop.proofs.Places.{place-step, place-none}
+use Rattle.net_hop.proofs.places_of.Statement.{statement}
+use Rattle.net_hop.proofs.places_of.Tie as tie
 
 abbrev Inv-loop : tie.InvT-loop
 Inv-loop addresses places₀ i₀ places i =

@@ -1,7 +1,8 @@
 -- The stations of a dry run: a list of addresses, and their tables end to end.
 -- Assumes nothing.
 use Prim.Native.Nat.{ℕ, _*_}
-use mathlib.Core.Bool.{Bool, _&&_}
+use mathlib.Core.Path.{_≡_}
+use mathlib.Core.Bool.{Bool, true, _&&_}
 use mathlib.Core.List.{List, [], _∷_, _++_}
 use lib.Dec.{eqb, leb}
 use lib.ListN.{length, take, drop}
@@ -30,3 +31,7 @@ tablesFit addresses tables = leb (length addresses) maxStations && eqb (length t
 -- set up rightly: so, and different addresses 1 to 240
 unfoldable pub setUp : List ℕ → List ℕ → Bool
 setUp addresses tables = tablesFit addresses tables && distinctAddresses addresses
+
+-- the tables of the net are the tables given, each where it was
+abbrev pub SameTables : Type 0
+SameTables = (addresses tables : List ℕ) → setUp addresses tables ≡ true → tablesOf (netOf addresses tables) ≡ tables

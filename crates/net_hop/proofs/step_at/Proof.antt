@@ -1,22 +1,19 @@
 -- `step_at`: the station's table is a part of the tables.
 -- Assumes nothing.
-use Rattle.net_dry_run.proofs.Hops.{stepped-at}
+use Rattle.net_hop.proofs.Hops.{stepped-at}
 use Rattle.mop_header.specs.Header.{headOf}
 use Rattle.mop_registers.proofs.Places.{table-length}
 use Rattle.mop_registers.specs.Rows.{tableLength}
 use native.Mathlib.Omega.{arith}
-use mathlib.Core.Path.{_≡_}
+use mathlib.Core.Path.{_≡_, refl}
 use Prim.Native.Nat.{ℕ, _+_, _-_, _*_}
 use borrow.Author.Needs.{needs}
-use Rattle.net_dry_run.proofs.step_at.Statement.{statement}
-use Rattle.net_dry_run.proofs.step_at.Tie as tie
+use Rattle.net_hop.proofs.step_at.Statement.{statement}
+use Rattle.net_hop.proofs.step_at.Tie as tie
 
--- where the table begins, and how long it is
-begins : (place : ℕ) → 18 * place ≡ tableLength * place
-begins place = rw table-length
-
-size : (place : ℕ) → (18 * place + 18) - 18 * place ≡ tableLength
-size place = rw table-length (omega arith)
+-- how long the part is
+size : (start : ℕ) → (start + tableLength) - start ≡ tableLength
+size start = omega arith
 
 mul-start : tie.Need-mul-start
 mul-start c = let l = rw table-length at (c .before .before .before .before .pre) in omega arith
@@ -58,10 +55,11 @@ same-length-2 : tie.Need-same-length-2
 same-length-2 c = search needs
 
 returns : tie.Need-returns
+unfolding tableLength
 returns c =
     let a = c .before .before .before .before .before .before .before .before .before .before .before .before .before .before .args in
     let s = c .before .before .before .before .before .before .before .step in
-    stepped-at (a .own) (a .place) (headOf (a .header) (a .block .now)) (a .body .now) (a .tables .now) (a .reply .now) (s .result) (a .block .now) _ _ (begins (a .place)) (size (a .place)) (s .ensures) (c .before .h .given .1)
+    stepped-at (a .own) (a .place) (headOf (a .header) (a .block .now)) (a .body .now) (a .tables .now) (a .reply .now) (s .result) (a .block .now) _ _ refl (size (tableLength * a .place)) (s .ensures) (c .before .h .given .1)
 
 same-length-3 : tie.Need-same-length-3
 same-length-3 c = search needs
@@ -70,10 +68,11 @@ same-length-4 : tie.Need-same-length-4
 same-length-4 c = search needs
 
 returns-2 : tie.Need-returns-2
+unfolding tableLength
 returns-2 c =
     let a = c .before .before .before .before .before .before .before .before .before .before .before .before .before .before .args in
     let s = c .before .before .before .before .before .before .before .step in
-    stepped-at (a .own) (a .place) (headOf (a .header) (a .block .now)) (a .body .now) (a .tables .now) (a .reply .now) (s .result) (a .block .now) _ _ (begins (a .place)) (size (a .place)) (s .ensures) (c .before .h2 .given .1)
+    stepped-at (a .own) (a .place) (headOf (a .header) (a .block .now)) (a .body .now) (a .tables .now) (a .reply .now) (s .result) (a .block .now) _ _ refl (size (tableLength * a .place)) (s .ensures) (c .before .h2 .given .1)
 
 same-length-5 : tie.Need-same-length-5
 same-length-5 c = search needs
@@ -82,10 +81,11 @@ same-length-6 : tie.Need-same-length-6
 same-length-6 c = search needs
 
 returns-3 : tie.Need-returns-3
+unfolding tableLength
 returns-3 c =
     let a = c .before .before .before .before .before .before .before .before .before .before .before .before .before .args in
     let s = c .before .before .before .before .before .before .step in
-    stepped-at (a .own) (a .place) (headOf (a .header) (a .block .now)) (a .body .now) (a .tables .now) (a .reply .now) (s .result) (a .block .now) _ _ (begins (a .place)) (size (a .place)) (s .ensures) (c .enum-told .given .1)
+    stepped-at (a .own) (a .place) (headOf (a .header) (a .block .now)) (a .body .now) (a .tables .now) (a .reply .now) (s .result) (a .block .now) _ _ refl (size (tableLength * a .place)) (s .ensures) (c .enum-told .given .1)
 
 same-length-7 : tie.Need-same-length-7
 same-length-7 c = search needs
@@ -94,10 +94,11 @@ same-length-8 : tie.Need-same-length-8
 same-length-8 c = search needs
 
 returns-4 : tie.Need-returns-4
+unfolding tableLength
 returns-4 c =
     let a = c .before .before .before .before .before .before .before .before .before .before .before .before .before .before .args in
     let s = c .before .before .before .before .before .before .before .step in
-    stepped-at (a .own) (a .place) (headOf (a .header) (a .block .now)) (a .body .now) (a .tables .now) (a .reply .now) (s .result) (a .block .now) _ _ (begins (a .place)) (size (a .place)) (s .ensures) (c .before .r .given .1)
+    stepped-at (a .own) (a .place) (headOf (a .header) (a .block .now)) (a .body .now) (a .tables .now) (a .reply .now) (s .result) (a .block .now) _ _ refl (size (tableLength * a .place)) (s .ensures) (c .before .r .given .1)
 
 pub step-at-spec : {M : Type 1} → statement M
 step-at-spec =

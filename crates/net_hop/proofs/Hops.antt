@@ -14,29 +14,29 @@ use Rattle.base.proofs.Choice.{pick-either}
 use Rattle.mop_registers.specs.Rows.{tableLength}
 use Rattle.mop_block.specs.Block.{isAddress, has, first}
 use Rattle.mop_header.specs.Header.{Head, telegramOf}
-use Rattle.mop_header.specs.Reading.{sound, reading}
+use Rattle.mop_reader.specs.Reading.{sound, reading}
 use Rattle.mop_header.specs.declared.Function.the-variants.{Request, Reply}
-use Rattle.mop_header.specs.declared.Reader.the-variants.{Station}
-use Rattle.mop_station.specs.Step.{Stepped, notMine, refuses, Step, StepCall, stepping, lending, maxReply, stepCallOf}
-use Rattle.mop_station.specs.declared.StationStep.{StationStep}
-use Rattle.mop_station.specs.declared.StationStep.the-variants as made
-use Rattle.mop_station.specs.Step as step
+use Rattle.mop_reader.specs.declared.Reader.the-variants.{Station}
+use Rattle.mop_step.specs.Step.{Stepped, notMine, refuses, Step, StepCall, stepping, lending, maxReply, stepCallOf}
+use Rattle.mop_step.specs.declared.StationStep.{StationStep}
+use Rattle.mop_step.specs.declared.StationStep.the-variants as made
+use Rattle.mop_step.specs.Step as step
 use Rattle.mop_station.specs.Station.{Handled}
 use Rattle.mop_station.specs.Station as handled
 use Rattle.net_journey.specs.Net.{Net, goodNet, isThere, tableAt, withTable}
 use Rattle.net_journey.specs.Journey.{Ending, atZero, atNobody, refusedWith, Course, onward, callOutput}
 use Rattle.net_journey.specs.Bounded.{playing}
 use Rattle.net_journey.proofs.Walks.{walk-zero, walk-nobody, walk-relayed, walk-answered, walk-refused, never-another}
-use Rattle.net_dry_run.specs.Tables.{netOf, tablesFit, setUp}
-use Rattle.mop_station.proofs.Rooms.{lent-count, replies-fit}
+use Rattle.net_hop.specs.Tables.{netOf, tablesFit, setUp}
+use Rattle.mop_step.proofs.Rooms.{lent-count, replies-fit}
 use Rattle.net_journey.proofs.Net.{good-table, good-address}
-use Rattle.net_dry_run.specs.Hop.{tableOf, putTable, bytes, placesOf, Hopped, relays, answers, ended, Hop, hop, hoppedBy, hopBy, stepAt, hopAt, hopping, hopOf}
+use Rattle.net_hop.specs.Hop.{tableOf, putTable, bytes, placesOf, Hopped, relays, answers, ended, Hop, hop, hoppedBy, hopBy, stepAt, hopAt, hopping, hopOf}
 use Rattle.mop_header.specs.declared.Header.{Header}
-use Rattle.net_dry_run.specs.declared.HopAnswer.{HopAnswer}
-use Rattle.net_dry_run.specs.declared.HopAnswer.the-variants.{Relayed, Answered, Ended}
-use Rattle.net_dry_run.specs.declared.JourneyEnd.the-variants.{AtNobody, Refused}
-use Rattle.net_dry_run.proofs.Tables.{fit-length, set-up-parts, set-up-fit, set-up-after, few-addresses, good-net, addresses-of-net, placeIn, here, table-at-place, new-net, new-fits}
-use Rattle.net_dry_run.proofs.Places.{place-of, no-place}
+use Rattle.net_hop.specs.declared.HopAnswer.{HopAnswer}
+use Rattle.net_hop.specs.declared.HopAnswer.the-variants.{Relayed, Answered, Ended}
+use Rattle.net_hop.specs.declared.JourneyEnd.the-variants.{AtNobody, Refused}
+use Rattle.net_hop.proofs.Tables.{fit-length, set-up-parts, set-up-fit, set-up-after, few-addresses, good-net, addresses-of-net, placeIn, here, table-at-place, new-net, new-fits}
+use Rattle.net_hop.proofs.Places.{place-of, no-place}
 
 address-byte : (a : ℕ) → isAddress a ≡ true → a < bytes
 unfolding isAddress

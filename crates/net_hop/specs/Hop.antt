@@ -9,14 +9,14 @@ use Rattle.refusal.specs.Numbers.{numberOf}
 use Rattle.mop_registers.specs.Rows.{tableLength}
 use Rattle.mop_block.specs.Block.{first}
 use Rattle.mop_header.specs.Header.{Head, headOf}
-use Rattle.mop_station.specs.Step.{Stepped, notMine, refuses, StepCall, stepping, lending}
-use Rattle.mop_station.specs.Step as step
+use Rattle.mop_step.specs.Step.{Stepped, notMine, refuses, StepCall, stepping, lending}
+use Rattle.mop_step.specs.Step as step
 use Rattle.net_journey.specs.Journey.{Ending, atZero, atNobody, refusedWith, callOutput}
-use Rattle.net_dry_run.specs.Tables.{maxStations}
-use Rattle.net_dry_run.specs.declared.JourneyEnd.{JourneyEnd}
-use Rattle.net_dry_run.specs.declared.JourneyEnd.the-variants.{AtZero, AtNobody, Refused}
-use Rattle.net_dry_run.specs.declared.HopAnswer.{HopAnswer}
-use Rattle.net_dry_run.specs.declared.HopAnswer.the-variants.{Relayed, Answered, Ended}
+use Rattle.net_hop.specs.Tables.{maxStations}
+use Rattle.net_hop.specs.declared.JourneyEnd.{JourneyEnd}
+use Rattle.net_hop.specs.declared.JourneyEnd.the-variants.{AtZero, AtNobody, Refused}
+use Rattle.net_hop.specs.declared.HopAnswer.{HopAnswer}
+use Rattle.net_hop.specs.declared.HopAnswer.the-variants.{Relayed, Answered, Ended}
 
 -- a table of places: at each address one more than the place of its station, and 0 where there is none. The next station has
 -- place n

@@ -1,13 +1,13 @@
 -- `hop`: by the first entry, its place, and the tables.
 -- Assumes nothing.
-use Rattle.net_dry_run.proofs.Hops.{hop-zero, hop-nobody, hop-beyond, hop-there}
+use Rattle.net_hop.proofs.Hops.{hop-zero, hop-nobody, hop-beyond, hop-there}
 use Rattle.mop_registers.proofs.Places.{table-length}
 use native.Mathlib.Omega.{arith}
 use mathlib.Core.Path.{_≡_, refl, _∙_}
 use Prim.Native.Nat.{suc, _-_}
 use borrow.Author.Needs.{needs}
-use Rattle.net_dry_run.proofs.hop.Statement.{statement}
-use Rattle.net_dry_run.proofs.hop.Tie as tie
+use Rattle.net_hop.proofs.hop.Statement.{statement}
+use Rattle.net_hop.proofs.hop.Tie as tie
 
 first-requires : tie.Need-first-requires
 first-requires c κs = search needs

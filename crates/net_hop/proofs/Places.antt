@@ -3,8 +3,8 @@
 use mathlib.Core.Path.{_≡_, refl, sym, _∙_, ap}
 use mathlib.Core.Bool.{Bool, true, false, not, _&&_, _||_, and-eq-true-iff}
 use mathlib.Core.List.{List, [], _∷_}
-use Prim.Native.Nat.{ℕ, zero, suc, _+_, _≤_, _<_}
-use native.Mathlib.Nat.{add-zero}
+use Prim.Native.Nat.{ℕ, suc, _+_, _≤_, _<_}
+use native.Mathlib.Nat.{add-zero, add-suc, suc-add}
 use native.Mathlib.Numerals.{add-one}
 use native.Mathlib.Omega.{arith}
 use borrow.Author.Tests.{eqb-true, eqb-false, not-true}
@@ -12,10 +12,12 @@ use lib.Dec.{eqb}
 use lib.ListN.{length, getD, drop, set, replicate, length-set, drop-of-length-le}
 use lib.Seq.{drop-cons, take-all, getD-set-same, getD-set-other}
 use Rattle.base.specs.Choice.{pick}
+use Rattle.base.proofs.Tests.{neither}
+use Rattle.base.proofs.Places.{getD-all}
 use Rattle.mop_block.specs.Block.{isAddress, has, distinctAddresses}
-use Rattle.net_dry_run.specs.Tables.{maxStations}
-use Rattle.net_dry_run.specs.Hop.{placing, bytes, placesOf}
-use Rattle.net_dry_run.proofs.Tables.{placeIn}
+use Rattle.net_hop.specs.Tables.{maxStations}
+use Rattle.net_hop.specs.Hop.{placing, bytes, placesOf}
+use Rattle.net_hop.proofs.Tables.{placeIn}
 
 -- the loop: what is left gives the whole
 module _ (list places : List ℕ) (i : ℕ) {whole : List ℕ} (so : placing places i (drop i list) ≡ whole) where
@@ -27,22 +29,13 @@ module _ (list places : List ℕ) (i : ℕ) {whole : List ℕ} (so : placing pla
   unfolding placing
   place-none h = sym (ap (placing places i) (drop-of-length-le list h)) ∙ so
 
-zero-at : (n i : ℕ) → getD {A = ℕ} (replicate n 0) i 0 ≡ 0
-zero-at zero i = refl
-zero-at (suc n) zero = refl
-zero-at (suc n) (suc i) = zero-at n i
-
-or-false : (s t : Bool) → (s || t) ≡ false → (s ≡ false) × (t ≡ false)
-or-false true t e = let z : _≡_ {A = ℕ} 0 1 = cc in absurd (omega arith)
-or-false false t e = (refl, e)
-
 module _ (a : ℕ) where
   -- a byte that is no address of the list
   kept-at : (places : List ℕ) (n : ℕ) (list : List ℕ) → has a list ≡ false → getD (placing places n list) a 0 ≡ getD places a 0
   unfolding placing has
   kept-at places n [] e = refl
   kept-at places n (x ∷ rest) e =
-      let both = or-false (eqb a x) (has a rest) e in
+      let both = neither (eqb a x) (has a rest) e in
       kept-at (set places x (suc n)) (suc n) rest (both .1) ∙ getD-set-other places x a (suc n) 0 (eqb-false a x (both .0))
 
   -- an address of it, which stands there once
@@ -54,10 +47,7 @@ module _ (a : ℕ) where
       let same : a ≡ x = eqb-true a x e in
       kept-at (set places x (suc n)) (suc n) rest (ap (λ (y : ℕ). has y rest) same ∙ not-true (has x rest) once)
       ∙ rw (← same) (getD-set-same places a (suc n) 0 h) ∙ ap suc (sym (add-zero n))
-  placed-by places n x rest h false e more once here = more here ∙ ap suc (sum n (placeIn a rest))
-    where
-      sum : (m k : ℕ) → suc m + k ≡ m + suc k
-      sum m k = omega arith
+  placed-by places n x rest h false e more once here = more here ∙ ap suc (suc-add n (placeIn a rest) ∙ sym (add-suc n (placeIn a rest)))
 
   placed-at : (places : List ℕ) (n : ℕ) (list : List ℕ) → a < length places → distinctAddresses list ≡ true → has a list ≡ true →
       getD (placing places n list) a 0 ≡ suc (n + placeIn a list)
@@ -78,4 +68,4 @@ module _ (a : ℕ) where
 
     pub no-place : has a addresses ≡ false → getD (placesOf addresses) a 0 ≡ 0
     unfolding placesOf
-    no-place e = rw (take-all maxStations addresses few) (kept-at (replicate bytes 0) 0 addresses e ∙ zero-at bytes a)
+    no-place e = rw (take-all maxStations addresses few) (kept-at (replicate bytes 0) 0 addresses e ∙ getD-all bytes a 0)

@@ -1,0 +1,5 @@
+pub mod Tables
+pub mod Places
+pub mod Hops
+pub mod Lent
+pub mod Ways
