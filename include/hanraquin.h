@@ -2,14 +2,14 @@
  * Hanraquin in C: 3964R frames, MoP telegrams at a station and at the centre, and a dry run of a net.
  *
  *     make staticlib
- *     cc -std=c99 -Iinclude program.c target/staticlib/libc_interface.a -o program
+ *     cc -std=c99 -Iinclude program.c target/staticlib/libhanraquin.a -o program
  *
  * The archive is for x86-64 Linux. Of other libraries it needs only memcpy and memset. examples/c/dock.c is a whole program.
  *
  * There are six calls. They work on memory that the caller lends, use no heap, and keep nothing from call to call. Several
  * threads may call them at the same time on different buffers.
  *
- * What is proved of the calls, and what is only trusted (this header too), is in README.md and docs/ARCHITECTURE.md.
+ * What is proved of the calls, and what is only trusted (this header too), is in docs/ARCHITECTURE.md.
  *
  * Rows of bytes are in hex. All other numbers are decimal, unless they have 0x.
  *
@@ -23,7 +23,7 @@
  *     bits 40 to 63    0
  *
  * hanraquin_value and hanraquin_kind take it apart. "Not mine" is no fault: the telegram is in order, but for somebody else.
- * Only hanraquin_station and hanraquin_read_reply give it.
+ * Only hanraquin_station and hanraquin_read_reply give it. A compiler that can do so warns where an answer is dropped.
  *
  * The refusals of a call are listed with it in the order in which they are checked: the first that applies is given. A call
  * that is refused, or answers "not mine", leaves all that it was lent as it was. There is one exception:
@@ -90,7 +90,7 @@
  *
  * REGISTERS
  *
- * A station has 18 registers of 16 bits. The caller keeps their values in a table in this order:
+ * A station has HANRAQUIN_REGISTERS registers of 16 bits. The caller keeps their values in a table in this order:
  *
  *     place   number   holds                                          write   range               factory
  *     0       2        binary inputs                                  no      any                 0
@@ -121,13 +121,24 @@
 #include <stddef.h>
 #include <stdint.h>
 
+/* Stands before the calls whose answer is not to be dropped. */
+#if defined(__cplusplus) && __cplusplus >= 201703L
+#define HANRAQUIN_ANSWER [[nodiscard]]
+#elif !defined(__cplusplus) && defined(__STDC_VERSION__) && __STDC_VERSION__ >= 202311L
+#define HANRAQUIN_ANSWER [[nodiscard]]
+#elif defined(__GNUC__)
+#define HANRAQUIN_ANSWER __attribute__((warn_unused_result))
+#else
+#define HANRAQUIN_ANSWER
+#endif
+
 #ifdef __cplusplus
 extern "C" {
 #endif
 
 /* Kinds of answers. */
 #define HANRAQUIN_DONE 0
-#define HANRAQUIN_REFUSED_SETUP 1          /* own address, table, state, net or the length of a fixed slice is wrong */
+#define HANRAQUIN_REFUSED_SETUP 1          /* address, table, state, event, net or the length of a fixed slice is wrong */
 #define HANRAQUIN_REFUSED_HEADER_CUT 2     /* the header is cut short */
 #define HANRAQUIN_REFUSED_FUNCTION 3       /* the function byte is not allowed here */
 #define HANRAQUIN_REFUSED_EXTENDED_COUNT 4 /* the count of an extended header is not 2 to 32 */
@@ -158,7 +169,7 @@ extern "C" {
 #define HANRAQUIN_STX 0x02         /* opens a block */
 #define HANRAQUIN_DLE 0x10         /* the good answer */
 #define HANRAQUIN_NAK 0x15         /* the bad answer */
-#define HANRAQUIN_TIMER 256        /* event: the timer ran out */
+#define HANRAQUIN_TIMER 256        /* event: the timer ran out; no event is larger */
 #define HANRAQUIN_PHASE_REST 0
 #define HANRAQUIN_PHASE_INSIDE 1
 #define HANRAQUIN_PHASE_AFTER_DLE 2
@@ -213,6 +224,7 @@ static inline uint16_t hanraquin_word(const uint8_t *two_bytes)
  * Value: the length of the frame, 3 to 2051.
  * Afterwards out begins with the frame, and is as it was behind it. Refused: out is as it was.
  */
+HANRAQUIN_ANSWER
 uint64_t hanraquin_frame(const uint8_t *data, size_t data_len, uint8_t *out, size_t out_len);
 
 /*
@@ -220,11 +232,13 @@ uint64_t hanraquin_frame(const uint8_t *data, size_t data_len, uint8_t *out, siz
  *
  *     state     3 places: the phase (0 rest, 1 inside a block, 2 inside after a DLE, 3 waiting for the check byte), the
  *               count of data bytes in the buffer, and the running check. {0, 0, 0} is a half at rest.
- *     event     a byte, 0 to 255; or the timer, 256 and above
+ *     event     a byte, 0 to 255, or HANRAQUIN_TIMER, 256. Anything above is refused with 1, so that a byte from a signed
+ *               char, which may be below 0, does not become a timer; hand it over as a uint8_t.
  *     buffer    takes the data of a block; 1024 places are enough for every message, and no more are used
  *
  * Refusals
- *     1     state_len is not 3; or the phase is over 3; or the check is over 255; or the count is over buffer_len or 1024
+ *     1     event is over 256; or state_len is not 3; or the phase is over 3; or the check is over 255; or the count is over
+ *           buffer_len or 1024
  *
  * Value
  *     0            send nothing
@@ -270,18 +284,19 @@ uint64_t hanraquin_frame(const uint8_t *data, size_t data_len, uint8_t *out, siz
  *         }
  *     }
  */
+HANRAQUIN_ANSWER
 uint64_t hanraquin_receive(uint64_t *state, size_t state_len, uint32_t event, uint8_t *buffer, size_t buffer_len);
 
 /*
  * Lets a station handle a telegram that it heard: it relays the telegram, or carries it out and answers.
  *
  *     own          its address, 1 to 240
- *     registers    its 18 values, in the order of the table above
+ *     registers    its HANRAQUIN_REGISTERS values, in the order of the table above
  *     telegram     any bytes
  *     out          1024 places are always enough
  *
  * Refusals, and not mine
- *     1                own is not 1 to 240, or registers_len is not 18
+ *     1                own is not 1 to 240, or registers_len is not HANRAQUIN_REGISTERS
  *     12, 2 to 6       a fault of the header, in the order given above
  *     255 not mine     the first entry of the block is not own
  *   as a relay (of every reply, and of a request whose second entry is not 0; the body is not looked at)
@@ -297,6 +312,7 @@ uint64_t hanraquin_receive(uint64_t *state, size_t state_len, uint32_t event, ui
  * Afterwards out begins with that telegram, and is as it was behind it. The destination has written all values of the
  * request to its registers; a relay has not changed any. Refused or not mine: registers and out are as they were.
  */
+HANRAQUIN_ANSWER
 uint64_t hanraquin_station(uint8_t own, uint16_t *registers, size_t registers_len, const uint8_t *telegram,
                            size_t telegram_len, uint8_t *out, size_t out_len);
 
@@ -318,6 +334,7 @@ uint64_t hanraquin_station(uint8_t own, uint16_t *registers, size_t registers_le
  * Value: the length of the request, 12 to 555. Registers and values are not judged here, but by the destination.
  * Afterwards out begins with the request, and is as it was behind it. Refused: out is as it was.
  */
+HANRAQUIN_ANSWER
 uint64_t hanraquin_write_request(const uint8_t *route, size_t route_len, uint16_t read_start, size_t read_count,
                                  uint16_t write_start, const uint16_t *values, size_t values_len, uint8_t *out,
                                  size_t out_len);
@@ -341,6 +358,7 @@ uint64_t hanraquin_write_request(const uint8_t *route, size_t route_len, uint16_
  * header + 3, also if there are no values. Value i, from 0 on, is hanraquin_word(telegram + run[2] + 2 * i).
  * Refused with 1: route and run are as they were. Any other refusal, and not mine: route and run are all 0.
  */
+HANRAQUIN_ANSWER
 uint64_t hanraquin_read_reply(const uint8_t *telegram, size_t telegram_len, uint8_t *route, size_t route_len,
                               uint16_t *run, size_t run_len);
 
@@ -350,13 +368,13 @@ uint64_t hanraquin_read_reply(const uint8_t *telegram, size_t telegram_len, uint
  *
  *     telegram     any bytes
  *     addresses    0 to 64 different addresses, each 1 to 240, in any order
- *     tables       18 registers for each address, in the same order
+ *     tables       HANRAQUIN_REGISTERS values for each address, in the same order
  *     out          1024 places or more
  *     result       3 places
  *
  * Refusals
  *     1         result_len is not 3; addresses_len is over 64; an address is not 1 to 240, or is there twice; or tables_len
- *               is not 18 x addresses_len
+ *               is not HANRAQUIN_REGISTERS x addresses_len
  *     12        telegram_len is over 1024
  *     11        out_len is under 1024
  *     2 to 6    a fault of the header, in the order given above
@@ -368,6 +386,7 @@ uint64_t hanraquin_read_reply(const uint8_t *telegram, size_t telegram_len, uint
  * its first 1024 places are 0, and behind these out is as it was. The tables are as the stations left them. Refused: tables,
  * out and result are as they were.
  */
+HANRAQUIN_ANSWER
 uint64_t hanraquin_dry_run(const uint8_t *telegram, size_t telegram_len, const uint8_t *addresses, size_t addresses_len,
                            uint16_t *tables, size_t tables_len, uint8_t *out, size_t out_len, uint32_t *result,
                            size_t result_len);

@@ -1,7 +1,7 @@
 /*
  * The night's job for the dock with station 55: its pump is switched on, over the relays 12 and 13.
  *
- *     cc -std=c99 -Iinclude examples/c/dock.c target/staticlib/libc_interface.a -o dock
+ *     cc -std=c99 -Iinclude examples/c/dock.c target/staticlib/libhanraquin.a -o dock
  *
  * It prints what is in examples/c/dock.expected, and ends with status 1 if anything is not as it must be.
  */

@@ -185,6 +185,7 @@ impl<'t> Accepted<'t> {
     /// assert_eq!(reply.route().last(), Some(&0x55));
     /// # Ok::<(), hanraquin::Refusal>(())
     /// ```
+    #[must_use]
     #[inline]
     pub fn route(&self) -> &[u8] {
         // No station has the address 0.
@@ -219,6 +220,7 @@ impl<'t> Accepted<'t> {
     /// assert_eq!(reply.value_bytes(), &telegram[9..]);
     /// # Ok::<(), hanraquin::Refusal>(())
     /// ```
+    #[must_use]
     #[inline]
     pub const fn value_bytes(&self) -> &'t [u8] {
         self.value_bytes

@@ -7,7 +7,7 @@
 //! call. A telegram that is for somebody else is "not mine", which is no error.
 //!
 //! What is proved of the library, and what has to be trusted (this crate too), is told in
-//! `README.md` and `docs/ARCHITECTURE.md` of the repository, and the rules in `docs/PROTOCOL.md`.
+//! `docs/ARCHITECTURE.md` of the repository, and the rules in `docs/protocol/`.
 //!
 //! # The centre and a dry run
 //!
@@ -76,11 +76,13 @@
 //!
 //! # Building
 //!
-//! `make staticlib` in the root of the repository writes the library to `target/staticlib`; the
-//! build script of this crate has it written if it is not there, or takes it from the folder that
-//! `HANRAQUIN_LIB_DIR` names by an absolute path. An archive that is there is taken as it is: after
-//! a change in `crates/`, run `make staticlib` first. It is for x86-64 Linux, and needs `memcpy` and
-//! `memset`.
+//! `make staticlib` in the root of the repository proves the library and writes it to
+//! `target/staticlib/libhanraquin.a`; the build script of this crate has that done if the archive is
+//! not there. That takes the Rattle kit. Without it, let `HANRAQUIN_LIB_DIR` name a folder that has
+//! the archive: a relative path is taken from the folder in which cargo was called, or else from
+//! that of this package or one above it, up to the root of the repository. An archive that is there
+//! is taken as it is: after a change in `crates/`, run `make staticlib` first. It is for x86-64
+//! Linux, and needs `memcpy` and `memset`.
 
 #![no_std]
 #![deny(missing_docs)]

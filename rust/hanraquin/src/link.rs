@@ -103,6 +103,7 @@ pub enum Event {
 /// # act(Answer::Message(&mut []), |byte| sent = byte, |message| assert!(message.is_empty()));
 /// # assert_eq!(sent, DLE);
 /// ```
+#[must_use = "it says what is to be sent"]
 #[derive(PartialEq, Eq, Hash, Debug)]
 pub enum Answer<'b> {
     /// Send nothing.
@@ -153,6 +154,7 @@ impl Receiver {
     /// ```
     /// assert_eq!(hanraquin::Receiver::new(), hanraquin::Receiver::default());
     /// ```
+    #[must_use]
     #[inline]
     pub const fn new() -> Receiver {
         Receiver { state: [0; 3] }
@@ -171,11 +173,11 @@ impl Receiver {
     /// buffer is never refused.
     ///
     /// ```
-    /// use hanraquin::{Answer, Event, Receiver, NAK, STX};
+    /// use hanraquin::{Answer, Event, Receiver, DLE, NAK, STX};
     ///
     /// let (mut receiver, mut buffer) = (Receiver::new(), [0; 1024]);
     /// assert_eq!(receiver.event(Event::Timer, &mut buffer)?, Answer::Nothing);
-    /// receiver.event(Event::Byte(STX), &mut buffer)?;
+    /// assert_eq!(receiver.event(Event::Byte(STX), &mut buffer)?, Answer::Send(DLE));
     /// assert_eq!(receiver.event(Event::Timer, &mut buffer)?, Answer::Send(NAK));
     /// # Ok::<(), hanraquin::Refusal>(())
     /// ```
@@ -209,14 +211,15 @@ impl Receiver {
     /// Whether no block is open, so that no timer has to run.
     ///
     /// ```
-    /// use hanraquin::{Event, Receiver, STX};
+    /// use hanraquin::{Answer, Event, Receiver, DLE, STX};
     ///
     /// let (mut receiver, mut buffer) = (Receiver::new(), [0; 1024]);
     /// assert!(receiver.is_at_rest());
-    /// receiver.event(Event::Byte(STX), &mut buffer)?;
+    /// assert_eq!(receiver.event(Event::Byte(STX), &mut buffer)?, Answer::Send(DLE));
     /// assert!(!receiver.is_at_rest());
     /// # Ok::<(), hanraquin::Refusal>(())
     /// ```
+    #[must_use]
     #[inline]
     pub const fn is_at_rest(&self) -> bool {
         self.state[0] == 0
@@ -228,6 +231,7 @@ impl Receiver {
     /// ```
     /// assert_eq!(hanraquin::Receiver::new().state(), [0, 0, 0]);
     /// ```
+    #[must_use]
     #[inline]
     pub const fn state(&self) -> [u64; 3] {
         self.state
@@ -245,6 +249,7 @@ impl Receiver {
     /// assert_eq!(bad.event(Event::Timer, &mut []), Err(Refusal::Setup));
     /// # Ok::<(), hanraquin::Refusal>(())
     /// ```
+    #[must_use]
     #[inline]
     pub const fn from_state(state: [u64; 3]) -> Receiver {
         Receiver { state }

@@ -18,8 +18,9 @@ use core::fmt;
 #[derive(Clone, Copy, PartialEq, Eq, PartialOrd, Ord, Hash, Debug)]
 #[repr(u8)]
 pub enum Refusal {
-    /// 1: the own address is not 1 to 240, the register table does not have 18 values, the state
-    /// of a receiver is against its buffer, or the dry run is set up wrongly.
+    /// 1: the own address is not 1 to 240, the register table does not have
+    /// [`REGISTERS`](crate::REGISTERS) values, the state of a receiver is against its buffer, or the
+    /// dry run is set up wrongly.
     Setup = 1,
     /// 2: the header is cut short.
     HeaderCut = 2,
@@ -52,6 +53,7 @@ impl Refusal {
     /// ```
     /// assert_eq!(hanraquin::Refusal::Block.number(), 5);
     /// ```
+    #[must_use]
     #[inline]
     pub const fn number(self) -> u8 {
         self as u8
@@ -66,6 +68,7 @@ impl Refusal {
     /// assert_eq!(Refusal::from_number(0), None);
     /// assert_eq!(Refusal::from_number(13), None);
     /// ```
+    #[must_use]
     #[inline]
     pub const fn from_number(number: u8) -> Option<Refusal> {
         Some(match number {

@@ -71,6 +71,7 @@ pub const FACTORY: Registers = [
 /// assert_eq!(place_of(954), None);
 /// assert_eq!(place_of(952).map(|place| FACTORY[place]), Some(15));
 /// ```
+#[must_use]
 #[inline]
 pub const fn place_of(number: u16) -> Option<usize> {
     let number = number as usize;
@@ -104,6 +105,7 @@ pub const TELEGRAM: usize = 1024;
 /// }
 /// # assert_eq!(to_send(Handled::NotMine), None);
 /// ```
+#[must_use = "it says what is to be sent"]
 #[derive(PartialEq, Eq, Hash, Debug)]
 pub enum Handled<'a> {
     /// It has to send this telegram, which is the first part of the output.

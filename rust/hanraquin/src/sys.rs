@@ -1,9 +1,9 @@
 //! The proved library as it is: six functions over pointers and lengths, as `include/hanraquin.h`
-//! declares them. Nothing checks these declarations against the library.
+//! declares them. Nothing checks the arguments of these declarations against the library.
 //!
 //! Every function gives 64 bits: a value in the low 32, and above it a kind of eight bits, which is
-//! [`DONE`], [`NOT_MINE`] or the number of a refusal. Only with [`DONE`] there is a value, and all
-//! other bits are 0. [`kind`] and [`value`] take an answer apart.
+//! [`DONE`], [`NOT_MINE`] or the number of a refusal. Only with [`DONE`] is there a value, and
+//! all other bits are 0. [`kind`] and [`value`] take an answer apart.
 //!
 //! # Safety
 //!
@@ -12,15 +12,15 @@
 //! must be there and hold values; and no slice that the call may write may overlap another one of
 //! the same call, or be used by anybody else while it runs. (The header for C forbids every
 //! overlap. Two slices that are only read may have bytes in common here, since safe Rust cannot
-//! keep them apart.) `slice::as_ptr` and
-//! `slice::as_mut_ptr` give such pointers. Any lengths and contents are allowed.
+//! keep them apart.) `slice::as_ptr` and `slice::as_mut_ptr` give such pointers. Any lengths and
+//! contents are allowed.
 
 /// The kind of an answer: the call did what it was asked.
 pub const DONE: u8 = 0;
 /// The kind of an answer: the telegram is for somebody else.
 pub const NOT_MINE: u8 = 255;
 
-/// The event of [`hanraquin_receive`] for a timer that ran out; so is every larger number.
+/// The event of [`hanraquin_receive`] for a timer that ran out. A larger number is refused with 1.
 pub const TIMER: u32 = 256;
 /// Added to a byte, the value of [`hanraquin_receive`] for "send this byte".
 pub const SEND: u32 = 256;
@@ -41,6 +41,7 @@ pub const AT_NOBODY: u32 = 1;
 /// assert_eq!(sys::kind(0x0B_0000_0000), 11);
 /// assert_eq!(sys::kind(0xFF_0000_0000), sys::NOT_MINE);
 /// ```
+#[must_use]
 #[inline]
 pub const fn kind(answer: u64) -> u8 {
     (answer >> 32) as u8
@@ -54,6 +55,7 @@ pub const fn kind(answer: u64) -> u8 {
 /// assert_eq!(sys::value(0x00_0000_0006), 6);
 /// assert_eq!(sys::value(0x00_0001_000E) - sys::MESSAGE, 14);
 /// ```
+#[must_use]
 #[inline]
 pub const fn value(answer: u64) -> u32 {
     answer as u32
@@ -77,15 +79,16 @@ unsafe extern "C" {
     /// assert_eq!((sys::kind(answer), sys::value(answer)), (sys::DONE, 6));
     /// assert_eq!(out, [0x60, 0x10, 0x10, 0x10, 0x03, 0x73]);
     /// ```
+    #[must_use]
     pub fn hanraquin_frame(data: *const u8, data_len: usize, out: *mut u8, out_len: usize) -> u64;
 
     /// Tells a receiving half one event: [`Receiver::event`](crate::Receiver::event).
     ///
     /// `state` has three places: the phase (0 rest, 1 inside, 2 inside after a DLE, 3 waiting),
-    /// the count and the running check. A state of another length, a phase over 3 and a check over
-    /// 255 are refused with 1, as is a count that the buffer cannot hold. `event` is a byte, or
-    /// [`TIMER`] and above. The value is 0 for nothing, [`SEND`] and a byte, or [`MESSAGE`] and a
-    /// length.
+    /// the count and the running check. `event` is a byte, 0 to 255, or [`TIMER`]. An event above
+    /// that, a state of another length, a phase over 3 and a check over 255 are refused with 1, as
+    /// is a count that the buffer cannot hold. The value is 0 for nothing, [`SEND`] and a byte, or
+    /// [`MESSAGE`] and a length.
     ///
     /// # Safety
     ///
@@ -103,6 +106,7 @@ unsafe extern "C" {
     /// assert_eq!((sys::kind(answer), sys::value(answer)), (sys::DONE, sys::SEND + 0x10));
     /// assert_eq!(state, [1, 0, 0]);
     /// ```
+    #[must_use]
     pub fn hanraquin_receive(
         state: *mut u64,
         state_len: usize,
@@ -135,6 +139,7 @@ unsafe extern "C" {
     /// assert_eq!((sys::kind(answer), sys::value(answer)), (sys::DONE, 9));
     /// assert_eq!(out[..9], [0xE0, 0xFF, 0x00, 0x55, 0x00, 0x00, 0x00, 0x00, 0x00]);
     /// ```
+    #[must_use]
     pub fn hanraquin_station(
         own: u8,
         registers: *mut u16,
@@ -168,6 +173,7 @@ unsafe extern "C" {
     /// assert_eq!((sys::kind(answer), sys::value(answer)), (sys::DONE, 14));
     /// assert_eq!(out[..8], [0x60, 0xFF, 0x55, 0x00, 0x00, 0x00, 0x03, 0xBB]);
     /// ```
+    #[must_use]
     pub fn hanraquin_write_request(
         route: *const u8,
         route_len: usize,
@@ -207,6 +213,7 @@ unsafe extern "C" {
     /// assert_eq!(route[..4], [0x12, 0x13, 0x55, 0x00]);
     /// assert_eq!(run, [955, 1, 9]);
     /// ```
+    #[must_use]
     pub fn hanraquin_read_reply(
         telegram: *const u8,
         telegram_len: usize,
@@ -247,6 +254,7 @@ unsafe extern "C" {
     /// assert_eq!((sys::kind(answer), sys::value(answer)), (sys::DONE, 2));
     /// assert_eq!(result, [2, sys::AT_ZERO, 9]);
     /// ```
+    #[must_use]
     pub fn hanraquin_dry_run(
         telegram: *const u8,
         telegram_len: usize,

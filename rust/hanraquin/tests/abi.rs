@@ -1,6 +1,6 @@
 //! The library's own functions: answers of 64 bits, wrong lengths, and numbers at the limits.
 
-use hanraquin::{FACTORY, sys};
+use hanraquin::{FACTORY, REGISTERS, sys};
 
 const NOT_MINE: u64 = 255 << 32;
 
@@ -117,7 +117,7 @@ fn frame_answers_its_length() {
 }
 
 #[test]
-fn every_event_number_is_a_byte_or_the_timer() {
+fn events_are_bytes_and_the_timer() {
     let inside = [1, 0, 0];
     for event in 0..=255 {
         let (mut state, mut buffer) = (inside, [0xA5; 2]);
@@ -129,12 +129,24 @@ fn every_event_number_is_a_byte_or_the_timer() {
             assert_eq!(buffer, [event as u8, 0xA5]);
         }
     }
-    for event in [256, 257, 256 + 2, 65536 + 2, 1 << 31, u32::MAX] {
-        let (mut state, mut buffer) = (inside, [0xA5; 2]);
-        assert_eq!(receive(&mut state, event, &mut buffer), 256 + 0x15);
-        assert_eq!((state, buffer), ([0; 3], [0xA5; 2]));
-        assert_eq!(receive(&mut state, event, &mut buffer), 0);
-        assert_eq!(state, [0; 3]);
+    let (mut state, mut buffer) = (inside, [0xA5; 2]);
+    assert_eq!(receive(&mut state, sys::TIMER, &mut buffer), 256 + 0x15);
+    assert_eq!((state, buffer), ([0; 3], [0xA5; 2]));
+    assert_eq!(receive(&mut state, sys::TIMER, &mut buffer), 0);
+    assert_eq!(state, [0; 3]);
+}
+
+#[test]
+fn larger_events_are_refused() {
+    // Bytes from a signed char are among these.
+    let signed = [-128_i8, -1].map(|byte| byte as u32);
+    let others = [257, 256 + 2, 65536 + 2, 65536 + 256, 1 << 31, u32::MAX];
+    for event in signed.into_iter().chain(others) {
+        for before in [[0, 0, 0], [1, 1, 0x41], [2, 1, 0x41], [3, 2, 0x13]] {
+            let (mut state, mut buffer) = (before, [0xA5; 2]);
+            assert_eq!(receive(&mut state, event, &mut buffer), refused(1));
+            assert_eq!((state, buffer), (before, [0xA5; 2]));
+        }
     }
 }
 
@@ -180,7 +192,7 @@ fn states_that_cannot_be_are_refused_in_every_phase() {
 
 #[test]
 fn states_of_another_length_are_refused() {
-    for length in [0, 1, 2, 4, 18] {
+    for length in [0, 1, 2, 4, 30] {
         let (mut state, mut buffer) = (vec![0; length], [0xA5; 4]);
         for event in [0x02, 256] {
             assert_eq!(receive(&mut state, event, &mut buffer), refused(1));
@@ -198,7 +210,7 @@ fn station_answers() {
         let answer = station(own, &mut registers, &REQUEST, &mut out);
         assert_eq!(answer, refused(1));
     }
-    for length in [0, 17, 19, 36] {
+    for length in [0, REGISTERS - 1, REGISTERS + 1, 2 * REGISTERS] {
         let answer = station(0x12, &mut vec![0; length], &REQUEST, &mut out);
         assert_eq!(answer, refused(1));
     }
@@ -317,6 +329,7 @@ fn dry_run_gives_its_result() {
 
 #[test]
 fn refused_dry_runs_keep_everything() {
+    const THREE: usize = 3 * REGISTERS;
     let addresses: Vec<u8> = (1..=65).collect();
     let check = |telegram: &[u8], addresses: &[u8], lengths: [usize; 3], number| {
         let [tables_len, out_len, result_len] = lengths;
@@ -330,20 +343,20 @@ fn refused_dry_runs_keep_everything() {
         assert_eq!(result, vec![9; result_len]);
     };
     for result_len in [0, 1, 2, 4, 31] {
-        check(&REQUEST, &addresses[..3], [54, 1024, result_len], 1);
+        check(&REQUEST, &addresses[..3], [THREE, 1024, result_len], 1);
         check(&[], &[], [0, 0, result_len], 1);
     }
-    check(&REQUEST, &addresses, [65 * 18, 1024, 3], 1);
-    check(&REQUEST, &addresses[..3], [53, 1024, 3], 1);
-    check(&REQUEST, &addresses[..3], [55, 1024, 3], 1);
-    check(&REQUEST, &[], [18, 1024, 3], 1);
-    check(&REQUEST, &[0], [18, 1024, 3], 1);
-    check(&REQUEST, &[241], [18, 1024, 3], 1);
-    check(&REQUEST, &[5, 6, 5], [54, 1024, 3], 1);
+    check(&REQUEST, &addresses, [65 * REGISTERS, 1024, 3], 1);
+    check(&REQUEST, &addresses[..3], [THREE - 1, 1024, 3], 1);
+    check(&REQUEST, &addresses[..3], [THREE + 1, 1024, 3], 1);
+    check(&REQUEST, &[], [REGISTERS, 1024, 3], 1);
+    check(&REQUEST, &[0], [REGISTERS, 1024, 3], 1);
+    check(&REQUEST, &[241], [REGISTERS, 1024, 3], 1);
+    check(&REQUEST, &[5, 6, 5], [THREE, 1024, 3], 1);
     // 1, 12, 11, and then the header.
-    check(&[0; 1025], &[0], [18, 0, 3], 1);
+    check(&[0; 1025], &[0], [REGISTERS, 0, 3], 1);
     check(&[0; 1025], &[], [0, 0, 3], 12);
     check(&[], &[], [0, 1023, 3], 11);
     check(&[], &[], [0, 1024, 3], 2);
-    check(&[0x61; 6], &addresses[..64], [64 * 18, 1024, 3], 3);
+    check(&[0x61; 6], &addresses[..64], [64 * REGISTERS, 1024, 3], 3);
 }

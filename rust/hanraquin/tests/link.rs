@@ -69,9 +69,8 @@ fn frames_are_read_back() {
 #[test]
 fn wrong_check_byte() {
     let (mut receiver, mut buffer) = (Receiver::new(), [0; 8]);
-    receiver
-        .event(Event::Byte(STX), &mut buffer)
-        .expect("opened");
+    let answer = receiver.event(Event::Byte(STX), &mut buffer);
+    assert_eq!(answer, Ok(Answer::Send(DLE)));
     feed(&mut receiver, &[0x60, 0x10, 0x03], &mut buffer);
     // As if the 03 were not in the check.
     let answer = receiver.event(Event::Byte(0x60 ^ 0x10), &mut buffer);

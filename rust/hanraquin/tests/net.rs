@@ -1,7 +1,7 @@
 //! Dry runs, and exchanges from the centre's request to the reply that it reads.
 
 use hanraquin::{Ending, Handled, Refusal, dry_run, handle, place_of, read_reply, write_request};
-use hanraquin::{FACTORY, REQUEST_MAX, ROUTE, Registers, Reply, STATIONS_MAX, TELEGRAM};
+use hanraquin::{FACTORY, REGISTERS, REQUEST_MAX, ROUTE, Registers, Reply, STATIONS_MAX, TELEGRAM};
 
 const ADDRESSES: [u8; 3] = [0x12, 0x13, 0x55];
 const REQUEST: [u8; 14] = [
@@ -72,13 +72,13 @@ fn nets_that_cannot_be() {
     let many: Vec<u8> = (1..=STATIONS_MAX as u8 + 1).collect();
     let mut out = [0xA5; TELEGRAM];
     for (addresses, tables_len) in [
-        (&many[..], 18 * many.len()),
-        (&[0x12, 0x13, 0x12], 54),
-        (&[0x00], 18),
-        (&[0xF1], 18),
-        (&ADDRESSES, 53),
-        (&ADDRESSES, 55),
-        (&[], 18),
+        (&many[..], REGISTERS * many.len()),
+        (&[0x12, 0x13, 0x12], 3 * REGISTERS),
+        (&[0x00], REGISTERS),
+        (&[0xF1], REGISTERS),
+        (&ADDRESSES, 3 * REGISTERS - 1),
+        (&ADDRESSES, 3 * REGISTERS + 1),
+        (&[], REGISTERS),
     ] {
         let answer = dry_run(&REQUEST, addresses, &mut vec![0; tables_len], &mut out);
         assert_eq!(answer, Err(Refusal::Setup), "{addresses:02X?}");
@@ -86,7 +86,8 @@ fn nets_that_cannot_be() {
     assert_eq!(out, [0xA5; TELEGRAM]);
 
     let most = &many[..STATIONS_MAX];
-    let run = dry_run(&REQUEST, most, &mut [0; 18 * STATIONS_MAX], &mut out).expect("played");
+    let mut tables = [0; REGISTERS * STATIONS_MAX];
+    let run = dry_run(&REQUEST, most, &mut tables, &mut out).expect("played");
     assert_eq!((run.count, run.ending), (3, Ending::AtNobody));
     let run = dry_run(&REQUEST, &[], &mut [], &mut out).expect("played");
     assert_eq!((run.count, run.ending), (1, Ending::AtNobody));

@@ -144,7 +144,7 @@ fn own_addresses_and_tables() {
             assert_eq!(answer, Err(Refusal::Setup), "{own}");
         }
     }
-    for length in [0, 17, 19] {
+    for length in [0, REGISTERS - 1, REGISTERS + 1] {
         let answer = handle(0x55, &mut vec![0; length], &to(0x55), &mut []);
         assert_eq!(answer, Err(Refusal::Setup));
     }

@@ -1,0 +1,3 @@
+pub mod Link
+pub mod Bounds
+pub mod Private
