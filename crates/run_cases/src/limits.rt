@@ -1,4 +1,5 @@
 // The link's calls at their limits.
+use crate::parts;
 use crate::show;
 use link_receive::Dle;
 use link_receive::LinkEvent;
@@ -25,10 +26,8 @@ pub(crate) fn first_other(s: &[u8], n: usize, b: u8) -> usize {
 pub(crate) fn show_changes(s: &[u8], n: usize) {
     let at = first_other(s, n, BEFORE);
     if at < s.len() {
-        show::text(b", place");
-        show::number(at);
-        show::text(b" is");
-        show::byte(s[at]);
+        show::number(b", place ", at);
+        show::byte(b" is", s[at]);
         if first_other(s, at + 1, BEFORE) < s.len() {
             show::text(b", and more changed\n");
             return;
@@ -37,91 +36,57 @@ pub(crate) fn show_changes(s: &[u8], n: usize) {
     show::text(b", nothing else changed\n");
 }
 
-// The last three bytes of a frame of n bytes.
-fn show_end(s: &[u8], n: usize) {
-    if n < 3 {
-        return;
-    }
-    if s.len() < n {
-        return;
-    }
-    show::text(b" ending");
-    show::byte(s[n - 3]);
-    show::byte(s[n - 2]);
-    show::byte(s[n - 1]);
-}
-
-// Frames src into the first places of out.
-fn frame_into(src: &[u8], out: &mut [u8], places: usize) {
-    if out.len() < places {
-        return;
-    }
-    match link_frame::frame(src, &mut out[0..places]) {
-        WriteAnswer::Written(k) => {
-            show::number(k);
-            show_end(&*out, k);
-            show_changes(&*out, k);
+// The length of a frame and its last three bytes, or a refusal; and what changed besides.
+fn show_framing(answer: WriteAnswer, out: &[u8]) {
+    match answer {
+        WriteAnswer::Written(n) => {
+            show::number(b": ", n);
+            if 3 <= n {
+                if n <= out.len() {
+                    show::start(b" ending", &out[n - 3..n], 3, 3);
+                }
+            }
+            show_changes(out, n);
         }
         WriteAnswer::Refused(r) => {
             show::refusal(r);
-            show_changes(&*out, 0);
+            show_changes(out, 0);
         }
     }
 }
 
-// Frames n bytes of one value into an output of so many places.
+// Frames n bytes of one value into an output of so many places, and shows all that it gives.
 fn frame_case(value: u8, n: usize, places: usize) {
+    show::number(b"frame of ", n);
+    show::byte(b" bytes", value);
+    show::number(b" into ", places);
+    show::text(b" places");
     let src = [value; 1025];
-    let mut out = [BEFORE; 2052];
-    if 1025 < n {
-        return;
-    }
-    show::text(b"frame of");
-    show::number(n);
-    show::text(b" bytes");
-    show::byte(value);
-    show::text(b" into");
-    show::number(places);
-    show::text(b" places:");
-    frame_into(&src[0..n], &mut out, places);
+    let mut room = [BEFORE; 2052];
+    let out = parts::lent(&mut room, places);
+    let answer = link_frame::frame(parts::of(&src, n), &mut *out);
+    show_framing(answer, &*out);
 }
 
-pub(crate) fn frames() {
-    frame_case(0x00, 1024, 2051);
-    frame_case(0x00, 1024, 1027);
-    frame_case(0x00, 1024, 1026);
-    frame_case(0x10, 1024, 2052);
-    frame_case(0x10, 1024, 2051);
-    frame_case(0x10, 1024, 2050);
-    frame_case(0x00, 1025, 2051);
-    frame_case(0x00, 1025, 0);
-    frame_case(0x00, 0, 3);
-    frame_case(0x00, 0, 2);
-}
-
-// One event, with the first places of the buffer.
-fn event_into(state: LinkState, event: LinkEvent, buffer: &mut [u8], places: usize) {
-    if buffer.len() < places {
-        return;
-    }
-    let step = link_receive::receive(state, event, &mut buffer[0..places]);
-    show::step(step);
-    show_changes(&*buffer, 0);
-}
-
-// One event at a phase with a count and check 44, with a buffer of so many places.
+// One event at a phase with a count and check 44, with a buffer of so many places, and all that it gives.
 fn event_case(phase: Phase, count: usize, event: LinkEvent, places: usize) {
-    let mut buffer = [BEFORE; 1025];
     let state = LinkState {
         count,
         check: 0x44,
         phase,
     };
     show::state(state);
-    show::text(b" of");
-    show::number(places);
+    show::number(b" of ", places);
     show::event(event);
-    event_into(state, event, &mut buffer, places);
+    let mut room = [BEFORE; 1025];
+    let buffer = parts::lent(&mut room, places);
+    let step = link_receive::receive(state, event, &mut *buffer);
+    let answer = step.answer;
+    let next = step.state;
+    show::answer(answer);
+    show::text(b"; ");
+    show::state(next);
+    show_changes(&*buffer, 0);
 }
 
 // A byte of each kind, and the timer, where there is room; then the same phase at the limits of its buffer.
@@ -142,7 +107,18 @@ fn phase_cases(phase: Phase) {
     event_case(phase, 1025, LinkEvent::Byte(0x10), 1025);
 }
 
-pub(crate) fn events() {
+// Frames of the most bytes, of one more and of none; then events at each phase.
+pub(crate) fn rows() {
+    frame_case(0x00, 1024, 2051);
+    frame_case(0x00, 1024, 1027);
+    frame_case(0x00, 1024, 1026);
+    frame_case(0x10, 1024, 2052);
+    frame_case(0x10, 1024, 2051);
+    frame_case(0x10, 1024, 2050);
+    frame_case(0x00, 1025, 2051);
+    frame_case(0x00, 1025, 0);
+    frame_case(0x00, 0, 3);
+    frame_case(0x00, 0, 2);
     phase_cases(Phase::Rest);
     phase_cases(Phase::Inside(Dle::NotSeen));
     phase_cases(Phase::Inside(Dle::Seen));

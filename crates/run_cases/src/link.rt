@@ -1,4 +1,5 @@
 // The link on the screen: each byte that is fed to a receiving half, and its answer.
+use crate::parts;
 use crate::show;
 use libc::STDIN_FILENO;
 use link_frame::control::STX;
@@ -16,27 +17,17 @@ fn at_rest() -> LinkStep {
     }
 }
 
-// The byte and its answer on a line; a message on the next one.
-fn show_fed(b: u8, answer: LinkAnswer, buffer: &[u8]) {
-    show::text(b"fed");
-    show::byte(b);
-    show::text(b":");
-    show::answer(answer);
-    show::text(b"\n");
-    if let LinkAnswer::Message(count) = answer {
-        if count <= buffer.len() {
-            show::text(b"message");
-            show::line(&buffer[0..count]);
-        }
-    }
-}
-
-// Feeds one byte to the half as the last step left it, and shows the answer.
+// Feeds one byte to the half as the last step left it, and shows byte and answer on a line; a message on the next one.
 fn feed_byte(last: LinkStep, b: u8, buffer: &mut [u8]) -> LinkStep {
     let state = last.state;
     let step = link_receive::receive(state, LinkEvent::Byte(b), &mut *buffer);
     let answer = step.answer;
-    show_fed(b, answer, &*buffer);
+    show::byte(b"fed", b);
+    show::answer(answer);
+    show::text(b"\n");
+    if let LinkAnswer::Message(count) = answer {
+        show::row(b"message", &*buffer, count);
+    }
     step
 }
 
@@ -68,82 +59,72 @@ pub(crate) fn listen() {
     }
 }
 
-// Says whether the answer is a message, and the message the data.
-fn compare(src: &[u8], answer: LinkAnswer, buffer: &[u8]) {
-    if let LinkAnswer::Message(count) = answer {
-        if count <= buffer.len() {
-            if check::same(src, &buffer[0..count]) {
-                show::text(b"the message is the data\n");
-                return;
-            }
-        }
+// Says whether the first n places of a buffer are what they are said to be.
+fn show_same(what: &[u8], expected: &[u8], buffer: &[u8], n: usize) {
+    if !check::same(expected, parts::of(buffer, n)) {
+        show::text(b"NOT ");
     }
-    show::text(b"the message is NOT the data\n");
+    show::text(what);
 }
 
-// Feeds STX and a frame to a half at rest, and compares its message with the data.
+// Feeds STX and a frame to a half at rest, and says whether its last answer is a message, and the message the data.
 fn send_back(src: &[u8], frame: &[u8]) {
     let mut buffer = [0u8; 1024];
     let opened = feed_byte(at_rest(), STX, &mut buffer);
     let last = feed_bytes(opened, frame, &mut buffer);
     let answer = last.answer;
-    compare(src, answer, &buffer);
-}
-
-// Frames the data once more, into so many places.
-fn frame_again(src: &[u8], frame: &[u8], out: &mut [u8], places: usize) {
-    if out.len() < places {
+    show::text(b"the message is ");
+    if let LinkAnswer::Message(count) = answer {
+        show_same(b"the data\n", src, &buffer, count);
         return;
     }
-    show::text(b"into");
-    show::number(places);
-    show::text(b" places:");
-    match link_frame::frame(src, &mut out[0..places]) {
+    show::text(b"NOT the data\n");
+}
+
+// Frames the data once more, into so many places, and says whether it is the same frame.
+fn frame_again(src: &[u8], frame: &[u8], places: usize) {
+    show::number(b"into ", places);
+    show::text(b" places");
+    let mut room = [0u8; 2051];
+    let out = parts::lent(&mut room, places);
+    match link_frame::frame(src, &mut *out) {
         WriteAnswer::Refused(r) => {
             show::refusal(r);
             show::text(b"\n");
         }
         WriteAnswer::Written(n) => {
-            show::number(n);
-            if n <= out.len() {
-                if check::same(frame, &out[0..n]) {
-                    show::text(b", the same frame\n");
-                    return;
-                }
-            }
-            show::text(b", NOT the same frame\n");
+            show::number(b": ", n);
+            show::text(b", ");
+            show_same(b"the same frame\n", frame, &*out, n);
         }
     }
 }
 
 // Shows the frame, frames into its exact length and into one place less, and feeds it back.
 fn show_frame(src: &[u8], frame: &[u8]) {
-    let mut out = [0u8; 2051];
     let n = frame.len();
-    show::text(b"data");
-    show::line(src);
-    show::text(b"frame");
-    show::line(frame);
-    frame_again(src, frame, &mut out, n);
+    show::row(b"data", src, src.len());
+    show::row(b"frame", frame, n);
+    frame_again(src, frame, n);
     if 0 < n {
-        frame_again(src, frame, &mut out, n - 1);
+        frame_again(src, frame, n - 1);
     }
     send_back(src, frame);
 }
 
-// Frames the data, feeds the frame back, and compares.
-pub(crate) fn play(src: &[u8]) {
+// Frames standard input, feeds the frame back, and compares. One byte more than a block holds shows that the data is too
+// long.
+pub(crate) fn frame() {
+    let mut input = [0u8; 1025];
+    let n = io::read_full(STDIN_FILENO, &mut input);
+    let src = parts::of(&input, n);
     let mut out = [0u8; 2051];
     match link_frame::frame(src, &mut out) {
         WriteAnswer::Refused(r) => {
-            show::text(b"frame:");
+            show::text(b"frame");
             show::refusal(r);
             show::text(b"\n");
         }
-        WriteAnswer::Written(n) => {
-            if n <= 2051 {
-                show_frame(src, &out[0..n]);
-            }
-        }
+        WriteAnswer::Written(n) => show_frame(src, parts::of(&out, n)),
     }
 }

@@ -6,7 +6,8 @@ use mathlib.Core.List.{List, _++_, append-nil}
 use borrow.Author.Tests.{leb-true}
 use lib.Dec.{leb}
 use lib.ListN.{length, getD, take, replicate, length-replicate, drop-of-length-le}
-use Prim.Native.Nat.{ℕ, suc, _-_, _≤_}
+use Prim.Native.Nat.{ℕ, _-_, _≤_}
+use native.Mathlib.Nat.{suc-ne-zero}
 use native.Mathlib.Omega.{arith}
 use Rattle.base.specs.Places.{placed}
 use Rattle.base.specs.Filling.{filled, fitted}
@@ -18,12 +19,12 @@ use Rattle.mop_registers.specs.Rows.{tableLength, placeOf, exists, mayWrite, ta
 use Rattle.mop_registers.specs.Runs.{runExists, runMayWrite, runTakes, writes, reads}
 use Rattle.mop_block.specs.Block.{isAddress, has, distinctAddresses, stations, zeroEnds, around, goodBlock, first, next, rolled, rollLeft, rollRight}
 use Rattle.mop_header.specs.Header.{Head, addressBytes, headerBytes, headerLength, telegramOf, bodyOf, mayBegin, isMark, markByte, markIs, withMark, markAgrees, remarked, rolledLeft, rolledRight, asReply, sentBack}
-use Rattle.mop_header.specs.Reading.{sound, allowed, functionAt, goodFor, judged, standardReading, extendedReading, reading}
+use Rattle.mop_reader.specs.Reading.{sound, allowed, functionAt, goodFor, judged, standardReading, extendedReading, reading}
 use Rattle.mop_header.specs.declared.Function.the-variants.{Request}
-use Rattle.mop_header.specs.declared.Reader.the-variants.{Station}
+use Rattle.mop_reader.specs.declared.Reader.the-variants.{Station}
 use Rattle.mop_body.specs.Body.{requestBody, replyWith}
-use Rattle.mop_station.specs.Body.{accepts, rejects, judgedRuns, judgedBody, afterWrites, replyBody}
-use Rattle.mop_station.specs.Step.{isStation, ifRoom, relayed, relaying, replied, answering, acting, stepping}
+use Rattle.mop_step.specs.Body.{accepts, rejects, judgedRuns, judgedBody, afterWrites, replyBody}
+use Rattle.mop_step.specs.Step.{isStation, ifRoom, relayed, relaying, replied, answering, acting, stepping}
 use Rattle.mop_station.specs.Station.{sendingBy, hearing, handling}
 use Rattle.mop_centre.specs.Request.{goodRoute, requestHead, requestTelegram, requesting}
 use Rattle.mop_centre.specs.Reply.{judgedReply, receiving, routePlaces, readOut, unread, opened, openedBy, replyReading}
@@ -33,14 +34,14 @@ use Rattle.net_journey.specs.Bounded.{calling, playing, mostTransmissions}
 use Rattle.net_journey.proofs.Whole.{every-journey, plays-the-journey}
 use Rattle.net_exchange.specs.Exchange.{Exchange}
 use Rattle.net_exchange.proofs.Exchange.{every-exchange}
-use Rattle.net_dry_run.specs.Tables.{netOf, tablesOf, tablesFit, setUp}
+use Rattle.net_hop.specs.Tables.{netOf, tablesOf, tablesFit, setUp}
 use Rattle.net_journey.specs.Terms.{lastTelegram}
 use Rattle.net_dry_run.specs.DryRun.{runOutput, played, leaves, padded, ofCourse, dryRun}
 use Rattle.net_report.specs.Text.{hexDigit, hexBytes, decimal, headLine, lineOf, line, lines, sentText, endingText, closing, courseText, refusedText, outrightText}
 use Rattle.net_report.specs.Report.{tellsCourse, reportOutput, reporting, toldOf}
 use Rattle.net_report.specs.Report as report
 use Rattle.net_report.proofs.Journeys.{tells-the-journey}
-use Rattle.net_dry_run.proofs.Tables.{good-net}
+use Rattle.net_hop.proofs.Tables.{good-net}
 use Rattle.net_dry_run.proofs.Outputs.{length-padded}
 use Rattle.net_dry_run.proofs.Journeys.{runs-the-journey}
 use Rattle.worked_cases.specs.Cases.{factoryTables, factoryNet, Travels, Tells, Promised, answered, unanswered, Asked, _also_, none, WorkedCases}
@@ -100,9 +101,6 @@ outright-by : (addresses tg text : List ℕ) →
     Tells addresses tg text
 outright-by addresses tg text e = record { tables = factoryTables addresses; told = e }
 
-suc-zero : {n : ℕ} → suc n ≡ 0 → ⊥
-suc-zero e = omega arith
-
 -- what demand 3 promises of it
 promised-by : (addresses tg : List ℕ) (h : Head) → goodNet (factoryNet addresses) ≡ true → reading Station tg ≡ sound h → h .function ≡ Request →
     (first (h .block) ≡ 0 → ⊥) → getD (h .block) (length (h .block) - 1) 0 ≡ 0 → allThere (stations (h .block)) (factoryNet addresses) ≡ true →
@@ -137,13 +135,15 @@ module _ (addresses route : List ℕ) (rStart rCount wStart : ℕ) (values : Lis
 pub worked-cases : WorkedCases
 unfolding placed fitted wordsOf bytesOf sent doubled xorOver checked checkByte frameOf framing against afterStore byteOf dataOf eventOf insideOf noRoom receiveOf restOf storeOf waitingOf feed tableLength placeOf exists mayWrite takes factory runExists runMayWrite runTakes writes reads isAddress has distinctAddresses stations zeroEnds around goodBlock first next rolled rollLeft rollRight addressBytes headerBytes headerLength telegramOf bodyOf mayBegin isMark markByte markIs withMark markAgrees remarked rolledLeft rolledRight asReply sentBack allowed functionAt goodFor judged standardReading extendedReading reading judgedRuns judgedBody afterWrites replyWith replyBody isStation ifRoom relayed relaying replied answering acting stepping sendingBy hearing handling rightTables goodNet isThere allThere upToMissing tableAt withTable named addressee handler calling playing netOf tablesOf tablesFit setUp lastTelegram padded hexDigit hexBytes decimal headLine lineOf line lines sentText endingText closing courseText refusedText outrightText toldOf reporting requestBody goodRoute requestHead requestTelegram requesting judgedReply receiving routePlaces readOut unread opened openedBy replyReading
 worked-cases =
-    refl also refl also refl also refl also refl also refl also refl also refl also refl also refl also refl also refl also refl also refl also refl also refl
-    also refl also refl also travels-by _ _ refl _ refl _ _ _ refl refl refl refl
+    refl also refl also refl
+    also travels-by _ _ refl _ refl _ _ _ refl refl refl refl
     also tells-by _ _ refl _ refl _ refl
-    also promised-by _ _ _ refl refl refl suc-zero refl refl refl
     also travels-by _ _ refl _ refl _ _ _ refl refl refl refl
+    also refl also refl also refl also refl also refl also refl also refl
+    also refl also refl also refl also refl also refl also refl also refl also refl
+    also promised-by _ _ _ refl refl refl (suc-ne-zero _) refl refl refl
     also travels-by _ _ refl _ refl _ _ _ refl refl refl refl
-    also promised-by _ _ _ refl refl refl suc-zero refl refl refl
+    also promised-by _ _ _ refl refl refl (suc-ne-zero _) refl refl refl
     also tells-by _ _ refl _ refl _ refl
     also travels-by _ _ refl _ refl _ _ _ refl refl refl refl
     also tells-by _ _ refl _ refl _ refl

@@ -1,17 +1,17 @@
--- `numbered_table` stays within its array and ends.
+-- `number_places` stays within the table and ends.
 -- Assumes nothing.
 use Prim.Native.Nat.{_≤_, _-_}
 use mathlib.Core.Path.{_≡_}
 use lib.ListN.{length}
 use borrow.Author.Needs.{needs}
-use Rattle.run_cases.proofs.station_limits.numbered_table.Statement.{statement}
-use Rattle.run_cases.proofs.station_limits.numbered_table.Tie as tie
+use Rattle.run_cases.proofs.station_limits.number_places.Statement.{statement}
+use Rattle.run_cases.proofs.station_limits.number_places.Tie as tie
 
 abbrev Inv-loop : tie.InvT-loop
-Inv-loop table₀ i₀ table i = (length table ≡ 20) × (i ≤ 20)
+Inv-loop table₀ i₀ table i = (length table ≡ length table₀) × (i ≤ length table₀)
 
 abbrev μ-loop : tie.MeasureT-loop
-μ-loop table₀ i₀ table i = 20 - i
+μ-loop table₀ i₀ table i = length table₀ - i
 
 loop-holds : tie.Need-loop-holds Inv-loop μ-loop
 loop-holds c = search needs
@@ -25,8 +25,8 @@ add-table c = search needs
 mul-table : tie.Need-mul-table Inv-loop μ-loop
 mul-table c = search needs
 
-array-write-table : tie.Need-array-write-table Inv-loop μ-loop
-array-write-table c = search needs
+slice-write-table : tie.Need-slice-write-table Inv-loop μ-loop
+slice-write-table c = search needs
 
 add-i : tie.Need-add-i Inv-loop μ-loop
 add-i c = search needs
@@ -37,11 +37,14 @@ loop-less c = search needs
 loop-again : tie.Need-loop-again Inv-loop μ-loop
 loop-again c = search needs
 
+same-length : tie.Need-same-length Inv-loop μ-loop
+same-length c = search needs
+
 returns : tie.Need-returns Inv-loop μ-loop
 returns c = search needs
 
-pub numbered-table-spec : {M : Type 1} → statement M
-numbered-table-spec =
+pub number-places-spec : {M : Type 1} → statement M
+number-places-spec =
     tie.close
     (tie.spec
     Inv-loop
@@ -50,8 +53,9 @@ numbered-table-spec =
     cast-table
     add-table
     mul-table
-    array-write-table
+    slice-write-table
     add-i
     loop-less
     loop-again
+    same-length
     returns)
