@@ -3,7 +3,7 @@
 /// The kind of a call that somebody else, or nobody, has to handle.
 pub const KIND_NOT_MINE: u8 = 255;
 /// The answer of such a call.
-pub const NOT_MINE: u64 = (KIND_NOT_MINE as u64) << 32;
+pub const NOT_MINE: u64 = refused(KIND_NOT_MINE);
 
 /// The call did what it was asked to.
 #[inline(always)]
@@ -25,6 +25,15 @@ pub const fn kind(answer: u64) -> u8 {
 /// The value of an answer.
 pub const fn value(answer: u64) -> usize {
     answer as u32 as usize
+}
+
+/// An answer in words, with one for what was done.
+pub fn text(answer: u64, done: &str) -> String {
+    match kind(answer) {
+        0 => format!("{done} {}", value(answer)),
+        KIND_NOT_MINE => "not mine".into(),
+        number => format!("refused {number}"),
+    }
 }
 
 /// What a receiving half answers to an event, in the value of the answer.

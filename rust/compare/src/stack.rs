@@ -3,26 +3,18 @@
 #![allow(unsafe_code)]
 
 /// Bytes of the stack that a function is run on.
-#[cfg(target_arch = "x86_64")]
 const SIZE: usize = 256 * 1024;
 
 /// How many bytes of stack a function touches, less those that one which does nothing does.
 ///
 /// The function runs on memory that was painted before. What is no longer painted afterwards was
-/// touched. Where the machine is another one nothing is measured.
-#[cfg(target_arch = "x86_64")]
-pub fn depth(function: &mut dyn FnMut()) -> Option<usize> {
+/// touched.
+pub fn depth(function: &mut dyn FnMut()) -> usize {
     let idle = touched(&mut || {});
-    Some(touched(function) - idle)
-}
-
-#[cfg(not(target_arch = "x86_64"))]
-pub fn depth(_: &mut dyn FnMut()) -> Option<usize> {
-    None
+    touched(function) - idle
 }
 
 /// The greater of two measurements, as a function may leave a byte that looks like paint.
-#[cfg(target_arch = "x86_64")]
 fn touched(function: &mut dyn FnMut()) -> usize {
     let deepest = [0xA5, 0x5A].map(|paint| {
         let mut stack = vec![paint; SIZE];
@@ -34,7 +26,6 @@ fn touched(function: &mut dyn FnMut()) -> usize {
 }
 
 /// Calls a function that is behind a pointer.
-#[cfg(target_arch = "x86_64")]
 extern "C" fn call(function: *mut &mut dyn FnMut()) {
     // SAFETY: the pointer is that of `run_on`, which waits for this call. A panic does not pass
     // through here: it would end the program.
@@ -42,7 +33,6 @@ extern "C" fn call(function: *mut &mut dyn FnMut()) {
 }
 
 /// Runs a function with its stack in a slice, which grows from the end down.
-#[cfg(target_arch = "x86_64")]
 fn run_on(stack: &mut [u8], mut function: &mut dyn FnMut()) {
     let function: *mut &mut dyn FnMut() = &mut function;
     let top = stack.as_mut_ptr_range().end.map_addr(|end| end & !15);
@@ -64,7 +54,7 @@ fn run_on(stack: &mut [u8], mut function: &mut dyn FnMut()) {
     }
 }
 
-#[cfg(all(test, target_arch = "x86_64"))]
+#[cfg(test)]
 mod tests {
     use super::*;
     use std::hint::black_box;
@@ -77,16 +67,8 @@ mod tests {
         let large = depth(&mut || {
             black_box([1u8; 5000]);
         });
-        let (small, large) = (small.expect("a depth"), large.expect("a depth"));
         assert!(small < 1000, "{small}");
         assert!((5000..20_000).contains(&large), "{large}");
-        assert_eq!(depth(&mut || {}), Some(0));
-    }
-
-    #[test]
-    fn the_function_is_run() {
-        let mut runs = 0;
-        depth(&mut || runs += 1);
-        assert_eq!(runs, 2);
+        assert_eq!(depth(&mut || {}), 0);
     }
 }

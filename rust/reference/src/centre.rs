@@ -146,7 +146,7 @@ fn content(telegram: &[u8]) -> Result<Option<Reply<'_>>, Refusal> {
 mod tests {
     use super::*;
     use crate::net::{self, Ending};
-    use crate::registers::{self, factory};
+    use crate::registers::{self, factory, COUNT};
     use crate::samples::{body, long, short, Random};
 
     const FILL: u8 = 0xA5;
@@ -981,7 +981,7 @@ mod tests {
 
     /// Different values, none of them the factory's.
     fn odd_tables(stations: usize) -> Vec<u16> {
-        (0xC000..).take(18 * stations).collect()
+        (0xC000..).take(COUNT * stations).collect()
     }
 
     /// Writes a request, plays it in a net of the route's stations and reads the reply.
@@ -1005,14 +1005,14 @@ mod tests {
         }
 
         // The destination is the first in the net; its registers after the writes.
-        let mut table = before[..18].to_vec();
+        let mut table = before[..COUNT].to_vec();
         let write_count = request.values.len() as u8;
         let written = registers::run(request.start, write_count).expect("registers");
         for (place, &value) in written.into_iter().zip(&request.values) {
             table[place] = value;
         }
-        assert_eq!(tables[..18], table);
-        assert_eq!(tables[18..], before[18..]);
+        assert_eq!(tables[..COUNT], table);
+        assert_eq!(tables[COUNT..], before[COUNT..]);
 
         let (start, count) = request.read;
         let values: Vec<u8> = registers::run(start, count as u8)
@@ -1054,7 +1054,7 @@ mod tests {
     fn exchanges_of_every_run() {
         for row in registers::ROWS {
             let exists = |count: &u8| registers::run(row.number, *count).is_some();
-            for count in (1..=18).take_while(exists) {
+            for count in (1..=u8::MAX).take_while(exists) {
                 check_exchange(&Request {
                     route: route(1 + usize::from(count) % 5),
                     read: (row.number, usize::from(count)),
@@ -1079,7 +1079,7 @@ mod tests {
         assert_eq!(journey.telegrams.len(), 6);
         let last = &journey.telegrams[5];
         check_accepted(last, &[0x12, 0x13, 0x55], 955, &[0x00, 0x00]);
-        assert_eq!(tables[36 + 1], 1);
+        assert_eq!(tables[2 * COUNT + 1], 1);
     }
 
     // Anything at all

@@ -50,7 +50,7 @@ impl Journey {
 
 /// Plays the journey of a telegram and writes its last telegram to the start of `out`.
 ///
-/// The registers of station `i` of `addresses` are the `i`th 18 values of `tables`. What
+/// The registers of station `i` of `addresses` are the `i`th [`COUNT`] values of `tables`. What
 /// the last telegram leaves free of the first [`MAX_TELEGRAM`] places of `out` becomes 0.
 /// On a refusal `tables` and `out` are untouched.
 pub fn dry_run(
@@ -170,7 +170,7 @@ mod tests {
 
     /// Tables without two equal values, none of which a setting may be given.
     fn odd_tables(stations: usize) -> Vec<u16> {
-        (0xC000..).take(18 * stations).collect()
+        (0xC000..).take(COUNT * stations).collect()
     }
 
     /// So many different addresses, neither sorted nor without gaps; 64 at most.
@@ -343,9 +343,9 @@ mod tests {
             if let Some(number) = self.refused {
                 return Ending::Refused(number);
             }
-            tables[18 * index + 10] = 0x0102;
-            tables[18 * index + 11] = 59;
-            let [high, low] = tables[18 * index + 12].to_be_bytes();
+            tables[COUNT * index + 10] = 0x0102;
+            tables[COUNT * index + 11] = 59;
+            let [high, low] = tables[COUNT * index + 12].to_be_bytes();
             let reply = [0x03, 0xBB, 3, 0x01, 0x02, 0, 59, high, low];
             let next = if m == 1 { self.n - 1 } else { m - 2 };
             telegrams.push(self.telegram(0xE0, 0xFF, next, &reply));
@@ -452,6 +452,8 @@ mod tests {
         let telegram = short(0x60, [0x55, 0x00, 0x00, 0x00], &body((952, 2), 300, &[3]));
         let mut tables = odd_tables(3);
         let journey = played(&telegram, &[0x12, 0x55, 0x13], &mut tables);
+        // The values of 952 and 953, at places 8 and 9 of the second table.
+        let low = COUNT as u8 + 8;
         assert_eq!(
             journey,
             Journey {
@@ -460,14 +462,14 @@ mod tests {
                     short(
                         0xE0,
                         [0x00, 0x55, 0x00, 0x00],
-                        &[0x03, 0xB8, 2, 0xC0, 26, 0xC0, 27]
+                        &[0x03, 0xB8, 2, 0xC0, low, 0xC0, low + 1]
                     ),
                 ],
                 ending: Ending::EmptyEntry,
             }
         );
         let mut expected = odd_tables(3);
-        expected[18 + 1] = 3;
+        expected[COUNT + 1] = 3;
         assert_eq!(tables, expected);
     }
 
@@ -513,7 +515,7 @@ mod tests {
             )
         );
         let mut expected = odd_tables(5);
-        expected[18 + 9] = 25;
+        expected[COUNT + 9] = 25;
         assert_eq!(tables, expected);
 
         // The same route in the longest block.
@@ -897,7 +899,7 @@ mod tests {
 
     #[test]
     fn values_in_the_tables_are_not_judged() {
-        let mut tables = vec![0xFFFF; 54];
+        let mut tables = vec![0xFFFF; 3 * COUNT];
         let telegram = short(0x60, [0x12, 0x55, 0x00, 0x00], &body((955, 2), 300, &[0]));
         let journey = played(&telegram, &[0x12, 0x13, 0x55], &mut tables);
         assert_eq!(
@@ -908,8 +910,8 @@ mod tests {
                 &[0x03, 0xBB, 2, 0xFF, 0xFF, 0xFF, 0xFF]
             )
         );
-        let mut expected = vec![0xFFFF; 54];
-        expected[36 + 1] = 0;
+        let mut expected = vec![0xFFFF; 3 * COUNT];
+        expected[2 * COUNT + 1] = 0;
         assert_eq!(tables, expected);
     }
 
@@ -1001,7 +1003,7 @@ mod tests {
             Some(1)
         );
         assert_eq!(
-            refusal(&short(0x60, [0x12, 0, 0, 0], &IDLE), &[], 18),
+            refusal(&short(0x60, [0x12, 0, 0, 0], &IDLE), &[], COUNT),
             Some(1)
         );
     }
@@ -1018,9 +1020,9 @@ mod tests {
         for stations in 0..=240 {
             let addresses: Vec<u8> = (1..=240).take(stations).collect();
             let expected = (stations > 64).then_some(1);
-            assert_eq!(refusal(&fine(), &addresses, 18 * stations), expected);
-            for length in [0, 18 * 64, 18 * 65] {
-                if length != 18 * stations {
+            assert_eq!(refusal(&fine(), &addresses, COUNT * stations), expected);
+            for length in [0, COUNT * 64, COUNT * 65] {
+                if length != COUNT * stations {
                     assert_eq!(refusal(&fine(), &addresses, length), Some(1));
                 }
             }
@@ -1028,15 +1030,15 @@ mod tests {
         // Many more, with nothing else or everything wrong.
         let addresses: Vec<u8> = (1..=240).cycle().take(100_000).collect();
         assert_eq!(refusal(&fine(), &addresses, 0), Some(1));
-        assert_eq!(refusal(&fine(), &addresses, 1_800_000), Some(1));
-        assert_eq!(refusal(&[], &[0; 65], 65 * 18), Some(1));
+        assert_eq!(refusal(&fine(), &addresses, 100_000 * COUNT), Some(1));
+        assert_eq!(refusal(&[], &[0; 65], 65 * COUNT), Some(1));
     }
 
     #[test]
     fn range_of_addresses() {
         for address in 0..=u8::MAX {
             let expected = (!(1..=240).contains(&address)).then_some(1);
-            assert_eq!(refusal(&fine(), &[address], 18), expected, "{address}");
+            assert_eq!(refusal(&fine(), &[address], COUNT), expected, "{address}");
             // At every place, and although nobody asks for it.
             for place in 0..64 {
                 let mut addresses: Vec<u8> = (100..164).collect();
@@ -1044,7 +1046,7 @@ mod tests {
                     continue;
                 }
                 addresses[place] = address;
-                assert_eq!(refusal(&fine(), &addresses, 64 * 18), expected);
+                assert_eq!(refusal(&fine(), &addresses, 64 * COUNT), expected);
             }
         }
     }
@@ -1055,38 +1057,38 @@ mod tests {
             for j in 0..i {
                 let mut addresses = scattered(64);
                 addresses[i] = addresses[j];
-                assert_eq!(refusal(&fine(), &addresses, 64 * 18), Some(1));
+                assert_eq!(refusal(&fine(), &addresses, 64 * COUNT), Some(1));
             }
         }
-        assert_eq!(refusal(&fine(), &[0x12, 0x12], 36), Some(1));
-        assert_eq!(refusal(&fine(), &[0x12, 0x12], 18), Some(1));
-        assert_eq!(refusal(&fine(), &[0x12, 0x13], 36), None);
-        assert_eq!(refusal(&fine(), &scattered(64), 64 * 18), None);
+        assert_eq!(refusal(&fine(), &[0x12, 0x12], 2 * COUNT), Some(1));
+        assert_eq!(refusal(&fine(), &[0x12, 0x12], COUNT), Some(1));
+        assert_eq!(refusal(&fine(), &[0x12, 0x13], 2 * COUNT), None);
+        assert_eq!(refusal(&fine(), &scattered(64), 64 * COUNT), None);
     }
 
     #[test]
     fn lengths_of_tables() {
         for stations in 0..=64 {
             let addresses = scattered(stations);
-            let right = 18 * stations;
+            let right = COUNT * stations;
             assert_eq!(refusal(&fine(), &addresses, right), None);
             for wrong in [
                 right + 1,
-                right + 17,
-                right + 18,
-                right + 19,
-                2 * right + 36,
+                right + COUNT - 1,
+                right + COUNT,
+                right + COUNT + 1,
+                2 * right + 2 * COUNT,
             ] {
                 assert_eq!(refusal(&fine(), &addresses, wrong), Some(1));
             }
-            for less in [1, 17, 18, 19] {
+            for less in [1, COUNT - 1, COUNT, COUNT + 1] {
                 if less <= right {
                     assert_eq!(refusal(&fine(), &addresses, right - less), Some(1));
                 }
             }
         }
         for length in 0..=100 {
-            let expected = (length != 54).then_some(1);
+            let expected = (length != 3 * COUNT).then_some(1);
             assert_eq!(refusal(&fine(), &[0x12, 0x13, 0x55], length), expected);
         }
     }
@@ -1125,7 +1127,7 @@ mod tests {
                     6..=1024 => None,
                     _ => Some(12),
                 };
-                assert_eq!(refusal(&telegram, &[0x12, 0x13, 0x55], 54), expected);
+                assert_eq!(refusal(&telegram, &[0x12, 0x13, 0x55], 3 * COUNT), expected);
                 assert_eq!(refusal(&telegram, &[], 0), expected);
             }
         }
@@ -1168,7 +1170,7 @@ mod tests {
     fn faults_of_the_header() {
         for (telegram, number) in faulty() {
             for addresses in [vec![], vec![0x12, 0x13, 0x55], vec![0xEF], scattered(64)] {
-                let length = 18 * addresses.len();
+                let length = COUNT * addresses.len();
                 assert_eq!(refusal(&telegram, &addresses, length), Some(number));
             }
         }
@@ -1179,16 +1181,16 @@ mod tests {
         // Addresses and registers, and whether these go together.
         let mut nets = vec![
             (vec![], 0, true),
-            (vec![0x12, 0x13, 0x55], 54, true),
-            (scattered(64), 64 * 18, true),
+            (vec![0x12, 0x13, 0x55], 3 * COUNT, true),
+            (scattered(64), 64 * COUNT, true),
             (vec![], 1, false),
-            (vec![0x12, 0x13, 0x55], 53, false),
-            (vec![0x12, 0x13, 0x55], 55, false),
-            (vec![0x12, 0x12, 0x55], 54, false),
-            (vec![0x12, 0x00, 0x55], 54, false),
-            (vec![0x12, 0x13, 0xF1], 54, false),
+            (vec![0x12, 0x13, 0x55], 3 * COUNT - 1, false),
+            (vec![0x12, 0x13, 0x55], 3 * COUNT + 1, false),
+            (vec![0x12, 0x12, 0x55], 3 * COUNT, false),
+            (vec![0x12, 0x00, 0x55], 3 * COUNT, false),
+            (vec![0x12, 0x13, 0xF1], 3 * COUNT, false),
         ];
-        nets.push(((1..=65).collect(), 65 * 18, false));
+        nets.push(((1..=65).collect(), 65 * COUNT, false));
 
         // Telegrams with their own number; the long ones have a second fault mostly.
         let mut telegrams: Vec<(Vec<u8>, Option<u8>)> = vec![
@@ -1292,7 +1294,7 @@ mod tests {
         let destination = before_the_empty(&header.block);
         for (i, &address) in addresses.iter().enumerate() {
             if Some(address) != destination {
-                let own = 18 * i..18 * i + 18;
+                let own = COUNT * i..COUNT * (i + 1);
                 assert_eq!(tables[own.clone()], before[own]);
             }
         }
@@ -1301,7 +1303,7 @@ mod tests {
         let mut heard = before;
         for (i, telegram) in journey.telegrams.iter().enumerate() {
             let mut sent = vec![];
-            for (&own, table) in addresses.iter().zip(heard.chunks_exact_mut(18)) {
+            for (&own, table) in addresses.iter().zip(heard.chunks_exact_mut(COUNT)) {
                 let mut out = [FILL; 1024];
                 match station::handle(own, table, telegram, &mut out) {
                     Answer::Sent(length) => sent.push(out[..length].to_vec()),

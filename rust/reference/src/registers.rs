@@ -101,7 +101,7 @@ mod tests {
     use super::*;
 
     /// Every number that has a register, in table order.
-    const NUMBERS: [u16; 18] = [
+    const NUMBERS: [u16; COUNT] = [
         2, 300, 931, 932, 933, 934, 935, 936, 952, 953, 955, 956, 957, 958, 959, 960, 961, 962,
     ];
 
@@ -236,7 +236,7 @@ mod tests {
         assert_eq!(run(952, 3), None);
         assert_eq!(run(954, 1), None);
         assert_eq!(run(954, 2), None);
-        assert_eq!(run(955, 8), Some((10..18).collect()));
+        assert_eq!(run(955, 8), Some((10..=17).collect()));
         assert_eq!(run(955, 9), None);
         assert_eq!(run(2, 255), None);
     }

@@ -55,6 +55,7 @@ fn line(number: usize, telegram: &[u8]) -> String {
 mod tests {
     use super::*;
     use crate::net::{dry_run, DryRun};
+    use crate::registers::COUNT;
     use crate::samples::{long, short, IDLE};
 
     // The program's net
@@ -62,9 +63,7 @@ mod tests {
     #[test]
     fn stations_of_the_program() {
         assert_eq!(ADDRESSES, [18, 19, 85]);
-        let one = [
-            0, 0, 0, 0, 0, 0, 0, 0, 15, 2, 0, 0, 65535, 30, 60, 15, 30, 0,
-        ];
+        let one = registers::factory();
         assert_eq!(factory_tables(), [one, one, one].concat());
     }
 
@@ -85,7 +84,7 @@ mod tests {
         let mut tables = factory_tables();
         assert_eq!(report(&telegram, &ADDRESSES, &mut tables), expected);
         let mut after = factory_tables();
-        after[36 + 1] = 1;
+        after[2 * COUNT + 1] = 1;
         assert_eq!(tables, after);
     }
 
@@ -107,7 +106,7 @@ mod tests {
         let text = "1 60 55 00 00 00\n2 E0 00 55 00 00\nsent 2\n";
         assert_eq!(program(&write), text);
         assert_eq!(program(&write), text);
-        assert_eq!(factory_tables()[36 + 1], 0);
+        assert_eq!(factory_tables()[2 * COUNT + 1], 0);
     }
 
     // Endings
@@ -208,12 +207,12 @@ mod tests {
             assert_eq!(tables, factory_tables());
             // The net comes before the telegram.
             for (addresses, length) in [
-                (vec![0x12, 0x13, 0x55], 53),
-                (vec![0x12, 0x13, 0x55], 55),
-                (vec![0x12, 0x13, 0x12], 54),
-                (vec![0x12, 0x13, 0x00], 54),
-                (vec![0x12, 0x13, 0xF1], 54),
-                ((1..=65).collect(), 65 * 18),
+                (vec![0x12, 0x13, 0x55], 3 * COUNT - 1),
+                (vec![0x12, 0x13, 0x55], 3 * COUNT + 1),
+                (vec![0x12, 0x13, 0x12], 3 * COUNT),
+                (vec![0x12, 0x13, 0x00], 3 * COUNT),
+                (vec![0x12, 0x13, 0xF1], 3 * COUNT),
+                ((1..=65).collect(), 65 * COUNT),
             ] {
                 let mut tables = vec![7; length];
                 assert_eq!(report(&telegram, &addresses, &mut tables), "refused 1\n");
@@ -267,7 +266,7 @@ mod tests {
         let text = report(
             &long(0x60, 0xEF, &block, &IDLE),
             &addresses,
-            &mut [0; 6 * 18],
+            &mut [0; 6 * COUNT],
         );
         let lines: Vec<&str> = text.lines().collect();
         assert_eq!(lines.len(), 13);
@@ -283,7 +282,7 @@ mod tests {
     fn longest_journey() {
         let route: Vec<u8> = (1..=31).collect();
         let block = [&route[..], &[0x00]].concat();
-        let mut tables = vec![0; 31 * 18];
+        let mut tables = vec![0; 31 * COUNT];
         let text = report(&long(0x60, 0xEF, &block, &IDLE), &route, &mut tables);
 
         // Entry 31 of the ring is the empty one.
@@ -374,7 +373,7 @@ mod tests {
         let good = report(&write(25), &ADDRESSES, &mut tables);
         assert!(good.ends_with("\nsent 4\n"));
         let mut after = factory_tables();
-        after[18 + 9] = 25;
+        after[COUNT + 9] = 25;
         assert_eq!(tables, after);
         let bad = report(&write(26), &ADDRESSES, &mut tables);
         assert!(bad.ends_with("\nsent 2 refused 10\n"));

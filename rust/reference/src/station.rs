@@ -122,7 +122,7 @@ fn carry_out(table: &mut Table, body: &[u8]) -> Result<Vec<u8>, u8> {
 #[cfg(test)]
 mod tests {
     use super::*;
-    use crate::registers::factory;
+    use crate::registers::{factory, COUNT};
     use crate::samples::{body, long, short, Random, IDLE};
 
     const FILL: u8 = 0xA5;
@@ -197,10 +197,6 @@ mod tests {
     fn refusal(body: &[u8]) -> Answer {
         silent(0x55, &direct(body))
     }
-
-    const NUMBERS: [u16; 18] = [
-        2, 300, 931, 932, 933, 934, 935, 936, 952, 953, 955, 956, 957, 958, 959, 960, 961, 962,
-    ];
 
     // Whole journeys
 
@@ -367,10 +363,10 @@ mod tests {
 
     #[test]
     fn table_lengths() {
-        for length in (0..=40).chain([324, 65536]) {
+        for length in (0..=2 * COUNT + 4).chain([COUNT * COUNT, 65536]) {
             let mut table = vec![0; length];
             let (answer, bytes) = call(0x55, &mut table, &direct(&IDLE), 1024);
-            if length == 18 {
+            if length == COUNT {
                 assert_eq!(answer, Answer::Sent(9));
                 assert_eq!(bytes, direct_reply(&[0, 0, 0]));
             } else {
@@ -394,7 +390,7 @@ mod tests {
             for own in [0, 241, 242, 255] {
                 assert_eq!(silent(own, telegram), Answer::Refused(1));
             }
-            for length in [0, 17, 19] {
+            for length in [0, COUNT - 1, COUNT + 1] {
                 let mut table = vec![7; length];
                 for room in [0, 1024] {
                     let (answer, _) = call(0x55, &mut table, telegram, room);
@@ -852,7 +848,7 @@ mod tests {
 
     #[test]
     fn every_register_is_read() {
-        for (place, number) in NUMBERS.into_iter().enumerate() {
+        for (place, number) in ROWS.map(|row| row.number).into_iter().enumerate() {
             let telegram = direct(&body((number, 1), 0, &[]));
             let [high, low] = number.to_be_bytes();
             let [upper, lower] = odd_table()[place].to_be_bytes();
@@ -867,7 +863,7 @@ mod tests {
 
     #[test]
     fn unknown_registers() {
-        for number in (0..=u16::MAX).filter(|number| !NUMBERS.contains(number)) {
+        for number in (0..=u16::MAX).filter(|&number| registers::place(number).is_none()) {
             let mut table = factory();
             for body in [body((number, 1), 0, &[]), body((0, 0), number, &[1])] {
                 let (answer, _) = call(0x55, &mut table, &direct(&body), 1024);
@@ -897,8 +893,9 @@ mod tests {
         let mut reply = vec![0x03, 0xBB, 8];
         reply.extend(values.iter().flat_map(|value| value.to_be_bytes()));
         assert_eq!(sent(0x55, &mut table, &telegram), direct_reply(&reply));
-        assert_eq!(table[..10], odd_table()[..10]);
-        assert_eq!(table[10..], values);
+        let mut expected = odd_table();
+        expected[10..=17].copy_from_slice(&values);
+        assert_eq!(table, expected);
 
         let telegram = direct(&body((931, 6), 0, &[]));
         assert_eq!(
@@ -1091,13 +1088,13 @@ mod tests {
 
     #[test]
     fn values_in_the_table_are_not_judged() {
-        let mut table = [0xFFFF; 18];
+        let mut table = [0xFFFF; COUNT];
         let telegram = direct(&body((952, 2), 300, &[3]));
         assert_eq!(
             sent(0x55, &mut table, &telegram),
             direct_reply(&[0x03, 0xB8, 2, 0xFF, 0xFF, 0xFF, 0xFF])
         );
-        let mut expected = [0xFFFF; 18];
+        let mut expected = [0xFFFF; COUNT];
         expected[1] = 3;
         assert_eq!(table, expected);
     }

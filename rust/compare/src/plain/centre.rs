@@ -66,10 +66,7 @@ fn good(route: &[u8]) -> bool {
 /// Reads a reply.
 #[inline(never)]
 pub fn read_reply(telegram: &[u8], route: &mut [u8], run: &mut [u16]) -> u64 {
-    let (Ok(route), Ok(run)) = (
-        <&mut [u8; ROUTE]>::try_from(route),
-        <&mut [u16; 3]>::try_from(run),
-    ) else {
+    let (Ok(route), Ok(run)) = (<&mut [u8; ROUTE]>::try_from(route), <&mut [u16; 3]>::try_from(run)) else {
         return refused(1);
     };
     *route = [0; ROUTE];
@@ -94,10 +91,6 @@ pub fn read_reply(telegram: &[u8], route: &mut [u8], run: &mut [u16]) -> u64 {
     for (place, &station) in route.iter_mut().zip(stations) {
         *place = station;
     }
-    *run = [
-        u16::from_be_bytes([high, low]),
-        u16::from(count),
-        (header.end() + 3) as u16,
-    ];
+    *run = [u16::from_be_bytes([high, low]), u16::from(count), (header.end() + 3) as u16];
     done(values.len())
 }

@@ -49,12 +49,7 @@ pub fn read(telegram: &[u8], at_station: bool) -> Result<Header, u8> {
         if !at_station && !somebody {
             return Err(5);
         }
-        return Ok(Header {
-            reply,
-            extended,
-            start: 2,
-            entries: 4,
-        });
+        return Ok(Header { reply, extended, start: 2, entries: 4 });
     }
     let Some(&count) = telegram.get(6) else {
         return Err(2);
@@ -73,12 +68,7 @@ pub fn read(telegram: &[u8], at_station: bool) -> Result<Header, u8> {
     if reply && (a == 0) != (block[0] == 0) {
         return Err(6);
     }
-    Ok(Header {
-        reply,
-        extended,
-        start: 7,
-        entries,
-    })
+    Ok(Header { reply, extended, start: 7, entries })
 }
 
 /// Whether a good block of four entries names a station; nothing for one that is not good.
@@ -89,10 +79,8 @@ fn short_block(block: [u8; 4]) -> Option<bool> {
         return None;
     }
     let twice = |x: u8, y: u8| x == y && x != 0;
-    let repeated =
-        twice(a, b) || twice(a, c) || twice(a, d) || twice(b, c) || twice(b, d) || twice(c, d);
-    let zeros =
-        u8::from(a == 0) | u8::from(b == 0) << 1 | u8::from(c == 0) << 2 | u8::from(d == 0) << 3;
+    let repeated = twice(a, b) || twice(a, c) || twice(a, d) || twice(b, c) || twice(b, d) || twice(c, d);
+    let zeros = u8::from(a == 0) | u8::from(b == 0) << 1 | u8::from(c == 0) << 2 | u8::from(d == 0) << 3;
     // The 00s are one stretch in all patterns but two, in which they and stations alternate.
     let together = !matches!(zeros, 0b0000 | 0b0101 | 0b1010);
     (together && !repeated).then_some(zeros != 0b1111)

@@ -7,6 +7,8 @@ const ETX: u8 = 0x03;
 const DLE: u8 = 0x10;
 const NAK: u8 = 0x15;
 const MOST: usize = 1024;
+/// The event that is no byte.
+const TIMER: u32 = 256;
 
 /// Data is looked at in pieces of so many bytes.
 const PIECE: usize = 16;
@@ -82,7 +84,8 @@ pub fn receive(state: &mut [u64], event: u32, buffer: &mut [u8]) -> u64 {
         return refused(1);
     };
     let [phase, count, check] = *state;
-    if phase > WAITING || check > 0xFF || count > MOST as u64 || count > buffer.len() as u64 {
+    let fits = count <= MOST as u64 && count <= buffer.len() as u64;
+    if phase > WAITING || check > 0xFF || !fits || event > TIMER {
         return refused(1);
     }
     // What comes most often is looked for first.
@@ -104,7 +107,7 @@ pub fn receive(state: &mut [u64], event: u32, buffer: &mut [u8]) -> u64 {
             *state = [INSIDE, 0, 0];
             return done(SEND + usize::from(DLE));
         }
-        (REST, 0x15 | 0x100..) => AT_REST,
+        (REST, 0x15 | TIMER) => AT_REST,
         _ => return reject(state),
     };
     *state = next;

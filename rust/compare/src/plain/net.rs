@@ -14,13 +14,7 @@ const AT_NOBODY: u8 = 1;
 
 /// Plays the journey of a telegram.
 #[inline(never)]
-pub fn dry_run(
-    telegram: &[u8],
-    addresses: &[u8],
-    tables: &mut [u16],
-    out: &mut [u8],
-    result: &mut [u32],
-) -> u64 {
+pub fn dry_run(telegram: &[u8], addresses: &[u8], tables: &mut [u16], out: &mut [u8], result: &mut [u32]) -> u64 {
     let Ok(result) = <&mut [u32; 3]>::try_from(result) else {
         return refused(1);
     };
@@ -72,20 +66,10 @@ struct Journey<'a> {
 
 /// Plays a journey. The block stays where it is; what moves is its beginning.
 #[inline(always)]
-fn play<'a>(
-    header: Header,
-    telegram: &'a [u8],
-    places: &[u8; 256],
-    tables: &mut [[u16; COUNT]],
-) -> Journey<'a> {
+fn play<'a>(header: Header, telegram: &'a [u8], places: &[u8; 256], tables: &mut [[u16; COUNT]]) -> Journey<'a> {
     let block = &telegram[header.start..header.end()];
     let last = block.len() - 1;
-    let mut journey = Journey {
-        count: 1,
-        ending: AT_ZERO,
-        first: 0,
-        answered: None,
-    };
+    let mut journey = Journey { count: 1, ending: AT_ZERO, first: 0, answered: None };
     let mut reply = header.reply;
     loop {
         let first = block[journey.first];
@@ -98,11 +82,7 @@ fn play<'a>(
             return journey;
         }
         if !reply {
-            let next = if journey.first == last {
-                0
-            } else {
-                journey.first + 1
-            };
+            let next = if journey.first == last { 0 } else { journey.first + 1 };
             if block[next] != 0 {
                 journey.first = next;
                 journey.count += 1;
@@ -120,11 +100,7 @@ fn play<'a>(
                 }
             }
         }
-        journey.first = if journey.first == 0 {
-            last
-        } else {
-            journey.first - 1
-        };
+        journey.first = if journey.first == 0 { last } else { journey.first - 1 };
         journey.count += 1;
     }
 }
@@ -132,13 +108,7 @@ fn play<'a>(
 impl Journey<'_> {
     /// Writes the last telegram, and 00 behind it.
     #[inline(always)]
-    fn put_last(
-        &self,
-        header: Header,
-        telegram: &[u8],
-        tables: &[[u16; COUNT]],
-        out: &mut [u8; MOST],
-    ) -> usize {
+    fn put_last(&self, header: Header, telegram: &[u8], tables: &[[u16; COUNT]], out: &mut [u8; MOST]) -> usize {
         let end = header.end();
         let length = match self.answered {
             Some((place, body)) => {

@@ -50,11 +50,8 @@ const RANGES: [(u16, u16, u16); COUNT] = [
 #[inline(always)]
 pub fn take(place: usize, values: &[[u8; 2]]) -> bool {
     let ranges = &RANGES[place..];
-    values
-        .iter()
-        .zip(ranges)
-        .all(|(&value, &(low, high, also))| {
-            let value = u16::from_be_bytes(value);
-            (low <= value && value <= high) || value == also
-        })
+    values.iter().zip(ranges).all(|(&value, &(low, high, also))| {
+        let value = u16::from_be_bytes(value);
+        (low <= value && value <= high) || value == also
+    })
 }

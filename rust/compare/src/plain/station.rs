@@ -40,11 +40,7 @@ pub fn station(own: u8, registers: &mut [u16], telegram: &[u8], out: &mut [u8]) 
 fn roll(header: Header, block: &[u8], left: bool, out: &mut [u8]) {
     if !header.extended {
         let block = u32::from_be_bytes([block[0], block[1], block[2], block[3]]);
-        let rolled = if left {
-            block.rotate_left(8)
-        } else {
-            block.rotate_right(8)
-        };
+        let rolled = if left { block.rotate_left(8) } else { block.rotate_right(8) };
         out[2..6].copy_from_slice(&rolled.to_be_bytes());
         return;
     }
@@ -62,12 +58,7 @@ fn roll(header: Header, block: &[u8], left: bool, out: &mut [u8]) {
 
 /// The destination: carries out the body and writes the reply.
 #[inline(always)]
-fn answer(
-    header: Header,
-    table: &mut [u16; COUNT],
-    telegram: &[u8],
-    out: &mut [u8],
-) -> Result<usize, u8> {
+fn answer(header: Header, table: &mut [u16; COUNT], telegram: &[u8], out: &mut [u8]) -> Result<usize, u8> {
     let body = Body::read(&telegram[header.end()..])?;
     let length = header.end() + body.reply_length();
     let out = out.get_mut(..length).ok_or(11)?;
@@ -96,9 +87,7 @@ impl<'a> Body<'a> {
     /// Reads a body; the refusal's number otherwise.
     #[inline(always)]
     pub fn read(body: &'a [u8]) -> Result<Body<'a>, u8> {
-        let Some((&[high, low, reads, start, start_low, writes], values)) =
-            body.split_first_chunk()
-        else {
+        let Some((&[high, low, reads, start, start_low, writes], values)) = body.split_first_chunk() else {
             return Err(7);
         };
         if values.len() != 2 * usize::from(writes) {
@@ -119,12 +108,7 @@ impl<'a> Body<'a> {
                 return Err(10);
             }
         }
-        Ok(Body {
-            read: [high, low, reads],
-            from,
-            to,
-            values,
-        })
+        Ok(Body { read: [high, low, reads], from, to, values })
     }
 
     /// The length of the reply's body.

@@ -13,16 +13,10 @@ use std::process::{Command, ExitCode};
 use std::time::{Duration, Instant};
 
 /// How it is measured, if nothing else is asked for.
-const FULL: Plan = Plan {
-    samples: 501,
-    sample: Duration::from_micros(500),
-};
+const FULL: Plan = Plan { samples: 501, sample: Duration::from_micros(500) };
 
 /// How it is measured in a hurry.
-const QUICK: Plan = Plan {
-    samples: 31,
-    sample: Duration::from_micros(300),
-};
+const QUICK: Plan = Plan { samples: 31, sample: Duration::from_micros(300) };
 
 /// What is asked for.
 struct Options {
@@ -43,7 +37,7 @@ fn main() -> Result<ExitCode, Box<dyn Error>> {
         rows.retain(|row| row.key == key);
     }
     for row in &rows {
-        if !agree(row) {
+        if !row.work.agree() {
             println!("WRONG: {}: the answers or the buffers differ", row.name);
             return Ok(ExitCode::FAILURE);
         }
@@ -58,22 +52,15 @@ fn main() -> Result<ExitCode, Box<dyn Error>> {
         print_row(row, &measured);
     }
     println!();
-    let right = memory::print(&mut rows);
+    memory::stack(&mut rows);
+    let right = memory::archive();
     println!("it took {:.1} s in all", start.elapsed().as_secs_f64());
-    Ok(if right {
-        ExitCode::SUCCESS
-    } else {
-        ExitCode::FAILURE
-    })
+    Ok(if right { ExitCode::SUCCESS } else { ExitCode::FAILURE })
 }
 
 /// Reads the arguments.
 fn options() -> Result<Options, Box<dyn Error>> {
-    let mut options = Options {
-        plan: FULL,
-        key: None,
-        seed: 3964,
-    };
+    let mut options = Options { plan: FULL, key: None, seed: 3964 };
     let mut args = std::env::args().skip(1);
     while let Some(arg) = args.next() {
         match arg.as_str() {
@@ -84,15 +71,6 @@ fn options() -> Result<Options, Box<dyn Error>> {
         }
     }
     Ok(options)
-}
-
-/// Whether library, plain Rust and reference give the same answers and leave the same buffers.
-fn agree(row: &Row) -> bool {
-    let [library, plain, reference] = [row.library, row.plain, row.reference].map(|once| {
-        let mut work = row.work.clone();
-        (once(&mut work), work)
-    });
-    library == reference && plain == reference
 }
 
 /// Says how is measured, and on what.

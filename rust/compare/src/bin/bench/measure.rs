@@ -1,6 +1,6 @@
 //! Measures two implementations, in turn.
 
-use crate::rows::{Row, Work};
+use crate::rows::Row;
 use std::hint::black_box;
 use std::time::{Duration, Instant};
 
@@ -45,13 +45,13 @@ const DEPTHS: usize = 32;
 
 /// Takes samples of both implementations, one after the other.
 pub fn measure(row: &mut Row, plan: Plan) -> Measured {
-    let once = [row.library, row.plain];
-    let times = once.map(|once| calibrate(once, &mut row.work, plan.sample));
+    let once: [fn(&mut Row) -> u64; 2] = [|row| row.work.library(), |row| row.work.plain()];
+    let times = once.map(|once| calibrate(once, row, plan.sample));
     let (mut library, mut plain, mut ratio) = (Vec::new(), Vec::new(), Vec::new());
     for number in 0..plan.samples {
         let mut taken = [0.0; 2];
         deeper(number % DEPTHS, &mut || {
-            taken = [0, 1].map(|i| sample(once[i], &mut row.work, times[i]));
+            taken = [0, 1].map(|i| sample(once[i], row, times[i]));
         });
         for (taken, times) in taken.iter_mut().zip(times) {
             *taken /= (times * row.calls) as f64;
@@ -60,19 +60,15 @@ pub fn measure(row: &mut Row, plan: Plan) -> Measured {
         plain.push(taken[1]);
         ratio.push(taken[1] / taken[0]);
     }
-    Measured {
-        library: Spread::of(library),
-        plain: Spread::of(plain),
-        ratio: Spread::of(ratio),
-    }
+    Measured { library: Spread::of(library), plain: Spread::of(plain), ratio: Spread::of(ratio) }
 }
 
 /// How often the calls are to be made for a sample of this length. Warms up on the way.
-fn calibrate(once: fn(&mut Work) -> u64, work: &mut Work, length: Duration) -> usize {
+fn calibrate(once: fn(&mut Row) -> u64, row: &mut Row, length: Duration) -> usize {
     let length = length.as_nanos() as f64;
     let mut times = 1;
     loop {
-        let taken = sample(once, work, times);
+        let taken = sample(once, row, times);
         if taken >= length / 2.0 {
             return (times as f64 * length / taken).ceil() as usize;
         }
@@ -94,10 +90,10 @@ fn deeper(frames: usize, function: &mut dyn FnMut()) {
 
 /// Makes the calls so many times, and gives the nanoseconds that it took.
 #[inline(never)]
-fn sample(once: fn(&mut Work) -> u64, work: &mut Work, times: usize) -> f64 {
+fn sample(once: fn(&mut Row) -> u64, row: &mut Row, times: usize) -> f64 {
     let start = Instant::now();
     for _ in 0..times {
-        black_box(once(work));
+        black_box(once(row));
     }
     start.elapsed().as_nanos() as f64
 }

@@ -7,44 +7,29 @@ use std::path::{Path, PathBuf};
 use std::process::Command;
 
 /// The archive of the library.
-const ARCHIVE: &str = "libc_interface.a";
+const ARCHIVE: &str = "libhanraquin.a";
 
 /// What the archive may ask for: functions that copy, fill and compare memory.
 const ALLOWED: [&str; 5] = ["memcpy", "memmove", "memset", "memcmp", "bcmp"];
 
-/// Prints both; false if the archive refers to anything else.
-pub fn print(rows: &mut [Row]) -> bool {
-    stack(rows);
-    archive()
-}
-
 /// Prints the stack that each call uses.
-fn stack(rows: &mut [Row]) {
+pub fn stack(rows: &mut [Row]) {
     println!(
         "Stack in bytes, with all that a call calls and the little that passing its arguments \
         takes,\nmeasured by running it on a painted stack:"
     );
     for row in rows {
-        let [library, plain] = [row.library, row.plain].map(|once| {
-            let work = &mut row.work;
-            depth(&mut || {
-                black_box(once(work));
-            })
-        });
-        let text = |depth: Option<usize>| depth.map_or("not measured".into(), |n| n.to_string());
-        let (library, plain) = (text(library), text(plain));
+        let work = &mut row.work;
+        let library = depth(&mut || _ = black_box(work.library()));
+        let plain = depth(&mut || _ = black_box(work.plain()));
         println!("{:<40}library {library:>6}   plain {plain:>6}", row.name);
     }
 }
 
 /// Prints what the archive refers to; false if that is more than it may.
-fn archive() -> bool {
+pub fn archive() -> bool {
     let path = folder().join(ARCHIVE);
-    let output = match Command::new("nm")
-        .arg("--undefined-only")
-        .arg(&path)
-        .output()
-    {
+    let output = match Command::new("nm").arg(&path).output() {
         Ok(output) if output.status.success() => output,
         _ => {
             println!("What the archive refers to was not looked at: nm is not there, or failed.");
@@ -52,10 +37,13 @@ fn archive() -> bool {
         }
     };
     let text = String::from_utf8_lossy(&output.stdout);
-    let mut names: Vec<&str> = text
-        .lines()
-        .filter_map(|line| line.trim_start().strip_prefix("U "))
-        .collect();
+    let symbols = |kind: &str| -> Vec<&str> {
+        let lines = text.lines().filter_map(|line| line.split_once(kind));
+        lines.map(|(_, name)| name).collect()
+    };
+    // An object may refer to what another one of the archive has.
+    let (mut names, own) = (symbols(" U "), symbols(" T "));
+    names.retain(|name| !own.contains(name));
     names.sort_unstable();
     names.dedup();
     let right = names.iter().all(|name| ALLOWED.contains(name));

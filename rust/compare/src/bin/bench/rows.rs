@@ -1,87 +1,134 @@
-//! What is measured: a name, the buffers, and the calls that are made on them.
+//! What is measured. A row is one entry of [`rows`]: its words, and the call that is made.
 
-use compare::implementations::{Calls, Plain, Reference};
-use compare::library::Library;
+use compare::call::{Arguments, Call};
+use compare::calls::frame::{frame, Frame};
+use compare::calls::{dry_run, read_reply::heard, receive::Receive, station, write_request::WriteRequest};
+use compare::inputs::Random;
+use compare::lent::Lent;
+use hanraquin::{DATA_MAX, FRAME_MAX, REGISTERS, ROUTE, STX, TELEGRAM};
 use std::hint::black_box;
-
-/// The buffers of a row. Both implementations work on the same ones.
-#[derive(Clone, PartialEq, Default)]
-pub struct Work {
-    pub own: u8,
-    pub data: Vec<u8>,
-    pub out: Vec<u8>,
-    pub registers: Vec<u16>,
-    pub state: Vec<u64>,
-    pub addresses: Vec<u8>,
-    pub result: Vec<u32>,
-}
-
-/// Makes the calls once, and gives their answers as one sum.
-type Once = fn(&mut Work) -> u64;
 
 /// One line of the table.
 pub struct Row {
     /// The word by which the row is asked for.
     pub key: &'static str,
     pub name: &'static str,
-    pub work: Work,
-    pub library: Once,
-    pub plain: Once,
-    pub reference: Once,
+    pub work: Box<dyn Work>,
     /// How many calls are made each time.
     pub calls: usize,
     /// How many bytes of data go through each time, where that is of interest.
     pub bytes: Option<usize>,
 }
 
-/// The three implementations of one kind of row.
-macro_rules! each {
-    ($once:ident) => {
-        [
-            |work| $once(&Library, work),
-            |work| $once(&Plain, work),
-            |work| $once(&Reference, work),
-        ]
-    };
+/// Makes the calls of a row once, always on the same memory, and gives their answers as one sum.
+pub trait Work {
+    fn library(&mut self) -> u64;
+    fn plain(&mut self) -> u64;
+    /// Whether library, plain Rust and reference give the same answers and leave the same memory.
+    fn agree(&self) -> bool;
 }
 
-fn frame<C: Calls>(calls: &C, work: &mut Work) -> u64 {
-    calls.frame(black_box(&work.data), black_box(&mut work.out))
-}
-
-fn receive<C: Calls>(calls: &C, work: &mut Work) -> u64 {
-    let mut answers = 0u64;
-    for &byte in &work.data {
-        let (state, buffer) = (black_box(&mut work.state), black_box(&mut work.out));
-        let answer = calls.receive(state, u32::from(byte), buffer);
-        answers = answers.wrapping_add(answer);
+impl<C: Call> Work for C {
+    fn library(&mut self) -> u64 {
+        black_box(&mut *self).call(C::LIBRARY)
     }
-    answers
+
+    fn plain(&mut self) -> u64 {
+        black_box(&mut *self).call(C::PLAIN)
+    }
+
+    fn agree(&self) -> bool {
+        let [library, plain, reference] =
+            [C::LIBRARY, C::PLAIN, C::REFERENCE].map(|function| self.outcome(function, 0));
+        library == reference && plain == reference
+    }
 }
 
-fn station<C: Calls>(calls: &C, work: &mut Work) -> u64 {
-    let (registers, out) = (black_box(&mut work.registers), black_box(&mut work.out));
-    calls.station(work.own, registers, black_box(&work.data), out)
+/// The bytes of a stream, fed one by one.
+#[derive(Clone)]
+struct Fed(Receive, Vec<u8>);
+
+impl Fed {
+    #[inline(always)]
+    fn feed(&mut self, receive: fn(&mut [u64], u32, &mut [u8]) -> u64) -> u64 {
+        let (state, buffer) = (&mut *self.0.state, &mut *self.0.buffer);
+        let mut answers = 0u64;
+        for &byte in &self.1 {
+            let (state, buffer) = (black_box(&mut *state), black_box(&mut *buffer));
+            answers = answers.wrapping_add(receive(state, byte.into(), buffer));
+        }
+        answers
+    }
 }
 
-fn write_request<C: Calls>(calls: &C, work: &mut Work) -> u64 {
-    let (route, values) = (black_box(&work.addresses), black_box(&work.registers));
-    calls.write_request(route, (955, 3), 952, values, black_box(&mut work.out))
+impl Work for Fed {
+    fn library(&mut self) -> u64 {
+        self.feed(Receive::LIBRARY)
+    }
+
+    fn plain(&mut self) -> u64 {
+        self.feed(Receive::PLAIN)
+    }
+
+    fn agree(&self) -> bool {
+        let [library, plain, reference] = [Receive::LIBRARY, Receive::PLAIN, Receive::REFERENCE].map(|function| {
+            let mut fed = self.clone();
+            (fed.feed(function), fed.0)
+        });
+        library == reference && plain == reference
+    }
 }
 
-fn read_reply<C: Calls>(calls: &C, work: &mut Work) -> u64 {
-    let (route, run) = (black_box(&mut work.out), black_box(&mut work.registers));
-    calls.read_reply(black_box(&work.data), route, run)
+/// A row of one call.
+fn row(key: &'static str, name: &'static str, call: impl Call) -> Row {
+    Row { key, name, work: Box::new(call), calls: 1, bytes: None }
 }
 
-fn dry_run<C: Calls>(calls: &C, work: &mut Work) -> u64 {
-    calls.dry_run(
-        black_box(&work.data),
-        black_box(&work.addresses),
-        black_box(&mut work.registers),
-        black_box(&mut work.out),
-        black_box(&mut work.result),
-    )
+/// All rows, with random data from a seed.
+pub fn rows(seed: u64) -> Vec<Row> {
+    let random = Random::new(seed).bytes(DATA_MAX);
+    let framed = |key, name, data: &[u8]| Row { bytes: Some(data.len()), ..row(key, name, frame(data, FRAME_MAX)) };
+    let fed = stream_of(&random);
+    let count = fed.len();
+    let half = Receive { state: vec![0; 3].into(), event: 0, buffer: Lent::output(DATA_MAX) };
+    let handled = |key, name, telegram: Vec<u8>| {
+        let mut call = station::call(telegram);
+        (call.registers, call.out) = (vec![7; REGISTERS].into(), Lent::output(TELEGRAM));
+        row(key, name, call)
+    };
+    let standard = |block: [u8; 4]| [&[0x60, 0xFF], &block[..], &BODY].concat();
+    let route: Vec<u8> = (0..ROUTE).map(|i| (i * 77 % 240) as u8 + 1).collect();
+    let fresh = extended(&[&route[..], &[0]].concat());
+    let arrived = extended(&[&route[ROUTE - 1..], &[0], &route[..ROUTE - 1]].concat());
+    let (relay, destination) = ([0x12, 0x13, 0x55, 0x00], [0x55, 0x00, 0x12, 0x13]);
+    let request = WriteRequest {
+        route: vec![0x12, 0x13, 0x55].into(),
+        read_start: 955,
+        read_count: 3,
+        write_start: 952,
+        values: vec![15, 5].into(),
+        out: Lent::output(TELEGRAM),
+    };
+    let reply = vec![0xE0, 0xFF, 0x00, 0x12, 0x13, 0x55, 0x03, 0xBB, 2, 1, 2, 3, 4];
+    let run = dry_run::run(fresh.clone(), route, vec![7; ROUTE * REGISTERS]);
+    vec![
+        framed("frame-random", "frame, 1,024 random bytes", &random),
+        framed("frame-10", "frame, 1,024 bytes of 10", &[0x10; DATA_MAX]),
+        Row {
+            key: "receive",
+            name: "receive, one byte of such a frame",
+            work: Box::new(Fed(half, fed)),
+            calls: count,
+            bytes: Some(count),
+        },
+        handled("relay", "station, relay, 4 entries", standard(relay)),
+        handled("relay-32", "station, relay, 32 entries", fresh),
+        handled("destination", "station, destination, 4 entries", standard(destination)),
+        handled("destination-32", "station, destination, 32 entries", arrived),
+        row("request", "write request, 3 stations, 2 values", request),
+        row("reply", "read reply, 3 stations, 2 values", heard(reply)),
+        row("dry-run", "dry run, 31 stations, 62 transmissions", run),
+    ]
 }
 
 /// A request that reads 955 to 957 and writes 952 and 953.
@@ -93,160 +140,10 @@ fn extended(block: &[u8]) -> Vec<u8> {
     [&front, block, &BODY].concat()
 }
 
-/// The addresses of 31 stations.
-fn stations() -> Vec<u8> {
-    (0..31).map(|i| (i * 77 % 240) as u8 + 1).collect()
-}
-
-/// All rows, with random data from a seed.
-pub fn rows(seed: u64) -> Vec<Row> {
-    let random = random_bytes(seed, 1024);
-    let mut fed = vec![0; 2052];
-    let length = Reference.frame(&random, &mut fed[1..]) as usize;
-    fed[0] = 0x02;
-    fed.truncate(1 + length);
-
-    let route = stations();
-    let out_and_home = [&route[..], &[0]].concat();
-    let mut arrived = out_and_home.clone();
-    arrived.rotate_left(30);
-
-    let mut rows = Vec::new();
-    let mut add = |key, name, [library, plain, reference]: [Once; 3], calls, bytes, work| {
-        rows.push(Row {
-            key,
-            name,
-            work,
-            library,
-            plain,
-            reference,
-            calls,
-            bytes,
-        });
-    };
-    let framed = |data: Vec<u8>| Work {
-        data,
-        out: vec![0xEE; 2051],
-        ..Work::default()
-    };
-    let handled = |own: u8, data: Vec<u8>| Work {
-        own,
-        data,
-        out: vec![0xEE; 1024],
-        registers: vec![7; 18],
-        ..Work::default()
-    };
-    add(
-        "frame-random",
-        "frame, 1,024 random bytes",
-        each!(frame),
-        1,
-        Some(1024),
-        framed(random),
-    );
-    add(
-        "frame-10",
-        "frame, 1,024 bytes of 10",
-        each!(frame),
-        1,
-        Some(1024),
-        framed(vec![0x10; 1024]),
-    );
-    add(
-        "receive",
-        "receive, one byte of such a frame",
-        each!(receive),
-        fed.len(),
-        Some(fed.len()),
-        Work {
-            data: fed,
-            out: vec![0xEE; 1024],
-            state: vec![0; 3],
-            ..Work::default()
-        },
-    );
-    let standard = |block: [u8; 4]| [&[0x60, 0xFF], &block[..], &BODY].concat();
-    add(
-        "relay",
-        "station, relay, 4 entries",
-        each!(station),
-        1,
-        None,
-        handled(0x12, standard([0x12, 0x13, 0x55, 0x00])),
-    );
-    add(
-        "relay-32",
-        "station, relay, 32 entries",
-        each!(station),
-        1,
-        None,
-        handled(route[0], extended(&out_and_home)),
-    );
-    add(
-        "destination",
-        "station, destination, 4 entries",
-        each!(station),
-        1,
-        None,
-        handled(0x55, standard([0x55, 0x00, 0x12, 0x13])),
-    );
-    add(
-        "destination-32",
-        "station, destination, 32 entries",
-        each!(station),
-        1,
-        None,
-        handled(route[30], extended(&arrived)),
-    );
-    let reply = [
-        0xE0, 0xFF, 0x00, 0x12, 0x13, 0x55, 0x03, 0xBB, 2, 1, 2, 3, 4,
-    ];
-    add(
-        "request",
-        "write request, 3 stations, 2 values",
-        each!(write_request),
-        1,
-        None,
-        Work {
-            out: vec![0xEE; 1024],
-            registers: vec![15, 5],
-            addresses: vec![0x12, 0x13, 0x55],
-            ..Work::default()
-        },
-    );
-    add(
-        "reply",
-        "read reply, 3 stations, 2 values",
-        each!(read_reply),
-        1,
-        None,
-        Work {
-            data: reply.to_vec(),
-            out: vec![0xEE; 31],
-            registers: vec![0; 3],
-            ..Work::default()
-        },
-    );
-    add(
-        "dry-run",
-        "dry run, 31 stations, 62 transmissions",
-        each!(dry_run),
-        1,
-        None,
-        Work {
-            data: extended(&out_and_home),
-            out: vec![0xEE; 1024],
-            registers: vec![7; 31 * 18],
-            addresses: route,
-            result: vec![0; 3],
-            ..Work::default()
-        },
-    );
-    rows
-}
-
-/// So many bytes from a seed.
-fn random_bytes(seed: u64, length: usize) -> Vec<u8> {
-    let mut random = compare::inputs::Random::new(seed);
-    (0..length).map(|_| random.byte()).collect()
+/// STX and the frame of data.
+fn stream_of(data: &[u8]) -> Vec<u8> {
+    let mut stream = vec![STX; 1 + FRAME_MAX];
+    let length = Frame::REFERENCE(data, &mut stream[1..]) as usize;
+    stream.truncate(1 + length);
+    stream
 }

@@ -1,7 +1,7 @@
 //! Telegrams and their parts, good ones and others, made from a seed.
 
-use crate::inputs::Random;
-use reference::registers::{Row, ROWS};
+use super::Random;
+use reference::registers::{factory, Row, ROWS};
 
 pub const REQUEST: u8 = 0x60;
 pub const REPLY: u8 = 0xE0;
@@ -12,9 +12,10 @@ const CONTROL: u8 = 0x5A;
 
 /// The first mark byte that belongs to a block.
 pub fn mark_of(function: u8, block: &[u8]) -> u8 {
-    match block {
-        [0, ..] if function == REPLY => 0x00,
-        _ => 0xEF,
+    if function == REPLY && block.first() == Some(&0) {
+        0x00
+    } else {
+        0xEF
     }
 }
 
@@ -36,16 +37,22 @@ pub fn telegram(function: u8, extended: bool, block: &[u8], body: &[u8]) -> Vec<
 
 /// Whether a telegram is in the extended form.
 pub fn is_extended(telegram: &[u8]) -> bool {
-    matches!(
-        telegram,
-        [_, _, 0xEF, 0xEF, 0xEF, 0xEF, ..] | [REPLY, _, 0x00, 0xEF, 0xEF, 0xEF, ..]
-    )
+    matches!(telegram, [_, _, 0xEF, 0xEF, 0xEF, 0xEF, ..] | [REPLY, _, 0x00, 0xEF, 0xEF, 0xEF, ..])
+}
+
+/// The entries of the block, as far as they are there.
+pub fn block_of(telegram: &[u8]) -> &[u8] {
+    let (start, count) = match is_extended(telegram) {
+        true => (7, telegram.get(6).map_or(0, |&count| usize::from(count).min(32))),
+        false => (2, 4),
+    };
+    let block = telegram.get(start..).unwrap_or(&[]);
+    &block[..count.min(block.len())]
 }
 
 /// The first entry of the block; 00 where it is missing.
 pub fn first_entry(telegram: &[u8]) -> u8 {
-    let place = if is_extended(telegram) { 7 } else { 2 };
-    telegram.get(place).copied().unwrap_or(0)
+    block_of(telegram).first().copied().unwrap_or(0)
 }
 
 /// The body of a request; the write count is that of the values.
@@ -89,16 +96,10 @@ pub fn writable_runs() -> Vec<(u16, u8)> {
 /// Bodies with none, one or several of a destination's refusals, in every combination.
 pub fn faulty_bodies() -> Vec<Vec<u8>> {
     let reads = [(955, 8), (953, 2), (0, 1), (65535, 0), (65535, 2)];
+    #[rustfmt::skip]
     let writes: [(u16, &[u16]); 9] = [
-        (0, &[]),
-        (952, &[1440, 25]),
-        (952, &[1440, 26]),
-        (952, &[0, 25]),
-        (953, &[26, 0]),
-        (931, &[0, 0]),
-        (935, &[0, 0, 0]),
-        (936, &[65535]),
-        (65535, &[1, 1]),
+        (0, &[]), (952, &[1440, 25]), (952, &[1440, 26]), (952, &[0, 25]), (953, &[26, 0]),
+        (931, &[0, 0]), (935, &[0, 0, 0]), (936, &[65535]), (65535, &[1, 1]),
     ];
     let mut bodies = Vec::new();
     for read in reads {
@@ -113,28 +114,12 @@ pub fn faulty_bodies() -> Vec<Vec<u8>> {
 }
 
 impl Random {
-    pub fn pick<T: Copy>(&mut self, from: &[T]) -> T {
-        from[self.below(from.len())]
-    }
-
-    /// True once in so many times.
-    pub fn once_in(&mut self, times: usize) -> bool {
-        self.below(times) == 0
-    }
-
-    pub fn word(&mut self) -> u16 {
-        self.below(65536) as u16
-    }
-
-    pub fn bytes(&mut self, length: usize) -> Vec<u8> {
-        (0..length).map(|_| self.byte()).collect()
-    }
-
     /// An address, often one at an end of the range, or one that looks like a mark.
     pub fn address(&mut self) -> u8 {
-        match self.below(8) {
-            0 => self.pick(&[0x01, 0xEF, 0xF0]),
-            _ => 1 + self.below(240) as u8,
+        if self.once_in(8) {
+            self.pick(&[0x01, 0xEF, 0xF0])
+        } else {
+            1 + self.below(240) as u8
         }
     }
 
@@ -156,11 +141,47 @@ impl Random {
     /// destination of a request.
     pub fn some_block(&mut self, entries: usize) -> Vec<u8> {
         let stations = self.below(entries);
-        let by = match stations {
-            1.. if self.once_in(2) => stations - 1,
-            _ => self.below(entries),
-        };
+        let by = if stations > 0 && self.once_in(2) { stations - 1 } else { self.below(entries) };
         self.block(stations, entries, by)
+    }
+
+    /// A good block that names a station and begins with an empty entry.
+    pub fn home_block(&mut self, entries: usize) -> Vec<u8> {
+        let stations = 1 + self.below(entries - 1);
+        let by = stations + self.below(entries - stations);
+        self.block(stations, entries, by)
+    }
+
+    /// A good block with one entry changed, in many ways at every place.
+    pub fn damaged(&mut self, good: &[u8]) -> Vec<Vec<u8>> {
+        let mut blocks = Vec::new();
+        for place in 0..good.len() {
+            let (next, any) = (good[(place + 1) % good.len()], self.pick(good));
+            for entry in [0x00, 0x01, 0xEF, 0xF0, 0xF1, 0xFF, next, any] {
+                let mut block = good.to_vec();
+                block[place] = entry;
+                blocks.push(block);
+            }
+        }
+        blocks
+    }
+
+    /// So many different addresses, in any order and without the given ones.
+    pub fn others(&mut self, count: usize, without: &[u8]) -> Vec<u8> {
+        let mut addresses: Vec<u8> = (1..=240).filter(|a| !without.contains(a)).collect();
+        self.shuffle(&mut addresses);
+        addresses.truncate(count);
+        addresses
+    }
+
+    /// Values for registers: those of new stations, one value, or any.
+    pub fn tables(&mut self, count: usize) -> Vec<u16> {
+        let one = self.word();
+        match self.below(4) {
+            0 => factory().into_iter().cycle().take(count).collect(),
+            1 => vec![one; count],
+            _ => (0..count).map(|_| self.word()).collect(),
+        }
     }
 
     /// A value that a register takes, often one at an end of its range.
@@ -177,11 +198,12 @@ impl Random {
     pub fn bad_value(&mut self, row: Row) -> u16 {
         let (under, over) = (row.low.wrapping_sub(1), row.high.wrapping_add(1));
         let any = self.word();
-        let mut values = vec![under, over, row.high | 0x8000, 65534, 65535, self.word()];
+        let mut values = vec![under, over, row.high | 0x8000, 65534, 65535, any];
         values.retain(|&value| !row.takes(value));
-        match values[..] {
-            [] => any,
-            _ => self.pick(&values),
+        if values.is_empty() {
+            any
+        } else {
+            self.pick(&values)
         }
     }
 
@@ -195,40 +217,50 @@ impl Random {
             .collect()
     }
 
-    /// A body that a destination accepts.
-    pub fn good_body(&mut self) -> Vec<u8> {
-        let nothing = (self.word(), 0);
-        let read = match self.below(4) {
-            0 => nothing,
-            _ => self.pick(&all_runs()),
-        };
-        let (start, count) = match self.below(4) {
-            0 => nothing,
-            _ => self.pick(&writable_runs()),
-        };
-        body(read, start, &self.good_values(start, count))
+    /// A run to read and a run to write; one in four is empty, and may begin anywhere.
+    pub fn runs(&mut self) -> [(u16, u8); 2] {
+        let runs = [self.pick(&all_runs()), self.pick(&writable_runs())];
+        runs.map(|run| if self.once_in(4) { (self.word(), 0) } else { run })
     }
 
-    /// A body that a destination may well refuse.
-    fn odd_body(&mut self) -> Vec<u8> {
-        let mut body = self.good_body();
-        let at = self.below(body.len());
-        match self.below(5) {
-            0 => body[at] = self.byte(),
-            1 => body[at] ^= 1 << self.below(8),
-            2 => body.truncate(at),
-            3 => body.push(self.byte()),
-            _ => body = self.bytes(at),
-        }
-        body
+    /// A body that a destination accepts.
+    pub fn good_body(&mut self) -> Vec<u8> {
+        let [read, (start, count)] = self.runs();
+        body(read, start, &self.good_values(start, count))
     }
 
     /// A body, most often one that is accepted.
     pub fn some_body(&mut self) -> Vec<u8> {
-        match self.below(3) {
-            0 => self.odd_body(),
-            _ => self.good_body(),
+        let mut body = self.good_body();
+        let at = self.below(body.len());
+        match self.below(12) {
+            0 => body[at] ^= 1 << self.below(8),
+            1 => body = self.bytes(at),
+            2 | 3 => self.change(&mut body),
+            _ => {}
         }
+        body
+    }
+
+    /// A body that goes with a function, most often one of the right length.
+    pub fn body_for(&mut self, function: u8) -> Vec<u8> {
+        if function != REPLY {
+            return self.some_body();
+        }
+        let count = match self.below(16) {
+            0 => self.byte(),
+            1 => self.pick(&[254, 255]),
+            2..=5 => 0,
+            _ => self.below(5) as u8,
+        };
+        let mut body = self.bytes(3 + 2 * usize::from(count));
+        body[2] = count;
+        match self.below(8) {
+            0 => body.push(self.byte()),
+            1 => body.truncate(self.pick(&[0, 1, 2, body.len() - 1])),
+            _ => {}
+        }
+        body
     }
 
     /// Whether a telegram is extended, and how many entries its block has.
@@ -243,9 +275,9 @@ impl Random {
     /// A telegram with a good header.
     pub fn some_telegram(&mut self) -> Vec<u8> {
         let (extended, entries) = self.some_form();
-        let function = self.pick(&[REQUEST, REQUEST, REPLY]);
+        let function = self.pick(&[REQUEST, REPLY]);
         let block = self.some_block(entries);
-        let mut telegram = telegram(function, extended, &block, &self.some_body());
+        let mut telegram = telegram(function, extended, &block, &self.body_for(function));
         telegram[1] = self.byte();
         telegram
     }
@@ -272,12 +304,28 @@ impl Random {
     }
 }
 
-/// Every count of entries, with as many of them, with fewer and with more.
-pub fn counted() -> impl Iterator<Item = (u8, usize)> {
-    (0..=u8::MAX).flat_map(|count| {
-        let n = usize::from(count);
-        [n.max(1), n.max(2) - 1, n + 1, 2, 32].map(|entries| (count, entries))
-    })
+/// Smaller telegrams: without one of the entries that its header counts, or without one of the
+/// values that its body counts.
+pub fn smaller(telegram: &[u8]) -> Vec<Vec<u8>> {
+    let without = |counter: usize, from: usize, length: usize| {
+        let mut smaller = telegram.to_vec();
+        smaller[counter] = smaller[counter].checked_sub(1)?;
+        smaller.drain(from..from + length);
+        Some(smaller)
+    };
+    let mut telegrams = Vec::new();
+    let mut body = 6;
+    if is_extended(telegram) && telegram.len() > 6 {
+        body = 7 + usize::from(telegram[6]);
+        let entries = 7..body.min(telegram.len());
+        telegrams.extend(entries.filter_map(|entry| without(6, entry, 1)));
+    }
+    // A reply counts its values in the third byte of its body, a request in the sixth.
+    for counter in [body + 2, body + 5] {
+        let values = (counter + 1..telegram.len().saturating_sub(1)).step_by(2);
+        telegrams.extend(values.filter_map(|value| without(counter, value, 2)));
+    }
+    telegrams
 }
 
 #[cfg(test)]
@@ -285,20 +333,12 @@ mod tests {
     use super::*;
 
     #[test]
-    fn runs() {
-        let runs = all_runs();
-        assert_eq!(runs.len(), 1 + 1 + 21 + 3 + 36);
-        assert!(runs.contains(&(955, 8)) && !runs.contains(&(953, 2)));
-        assert_eq!(writable_runs().len(), 1 + 3 + 36);
-    }
-
-    #[test]
-    fn values() {
+    fn runs_and_values() {
+        assert_eq!((all_runs().len(), writable_runs().len()), (1 + 1 + 21 + 3 + 36, 1 + 3 + 36));
         let mut random = Random::new(1);
         for row in ROWS.into_iter().filter(|row| row.write) {
             for _ in 0..100 {
-                assert!(row.takes(random.good_value(row)));
-                assert!(!row.takes(random.bad_value(row)));
+                assert!(row.takes(random.good_value(row)) && !row.takes(random.bad_value(row)));
             }
         }
     }

@@ -1,0 +1,39 @@
+//! The calls, one module each.
+
+pub mod dry_run;
+mod exchange;
+pub mod frame;
+pub mod read_reply;
+pub mod receive;
+pub mod station;
+pub mod write_request;
+
+use crate::answer::{done, refused};
+use crate::driver::Part;
+
+/// All that is compared.
+pub fn parts() -> Vec<Part> {
+    vec![
+        Part::of::<frame::Frame>(),
+        Part::of::<receive::Receive>(),
+        Part::of::<station::Station>(),
+        Part::of::<write_request::WriteRequest>(),
+        Part::of::<read_reply::ReadReply>(),
+        Part::of::<dry_run::DryRun>(),
+        Part::of_several("exchanges", exchange::generate),
+    ]
+}
+
+/// Most places of an output, and most bytes of a telegram, of most inputs.
+pub const MOST: usize = 1100;
+
+/// A length that only a wrong program would ever use.
+pub const MEGABYTE: usize = 1 << 20;
+
+/// The answer of a call that gives a value or a refusal's number.
+fn given(result: Result<usize, u8>) -> u64 {
+    match result {
+        Ok(value) => done(value),
+        Err(number) => refused(number),
+    }
+}
