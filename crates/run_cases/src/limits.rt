@@ -5,7 +5,6 @@ use link_receive::Dle;
 use link_receive::LinkEvent;
 use link_receive::LinkState;
 use link_receive::Phase;
-use refusal::WriteAnswer;
 
 // What buffers hold before a call.
 pub(crate) const BEFORE: u8 = 0xEE;
@@ -22,50 +21,31 @@ pub(crate) fn first_other(s: &[u8], n: usize, b: u8) -> usize {
     s.len()
 }
 
-// The place from n on that changed, if one did, and whether more did.
-pub(crate) fn show_changes(s: &[u8], n: usize) {
+// How far the places are as before, from n on. If that is not to the end: the byte there, and how far those behind it are
+// as before.
+pub(crate) fn show_kept(s: &[u8], n: usize) {
     let at = first_other(s, n, BEFORE);
+    show::text(b"; kept to");
+    show::number(at);
     if at < s.len() {
-        show::number(b", place ", at);
-        show::byte(b" is", s[at]);
-        if first_other(s, at + 1, BEFORE) < s.len() {
-            show::text(b", and more changed\n");
-            return;
-        }
+        show::byte(s[at]);
+        show::number(first_other(s, at + 1, BEFORE));
     }
-    show::text(b", nothing else changed\n");
+    show::mark(b'\n');
 }
 
-// The length of a frame and its last three bytes, or a refusal; and what changed besides.
-fn show_framing(answer: WriteAnswer, out: &[u8]) {
-    match answer {
-        WriteAnswer::Written(n) => {
-            show::number(b": ", n);
-            if 3 <= n {
-                if n <= out.len() {
-                    show::start(b" ending", &out[n - 3..n], 3, 3);
-                }
-            }
-            show_changes(out, n);
-        }
-        WriteAnswer::Refused(r) => {
-            show::refusal(r);
-            show_changes(out, 0);
-        }
-    }
-}
-
-// Frames n bytes of one value into an output of so many places, and shows all that it gives.
+// Frames n bytes of one value into an output of so many places, and shows all that it gives: of the frame its length and
+// its last three bytes.
 fn frame_case(value: u8, n: usize, places: usize) {
-    show::number(b"frame of ", n);
-    show::byte(b" bytes", value);
-    show::number(b" into ", places);
-    show::text(b" places");
+    show::byte(value);
+    show::number(n);
+    show::number(places);
     let src = [value; 1025];
     let mut room = [BEFORE; 2052];
     let out = parts::lent(&mut room, places);
-    let answer = link_frame::frame(parts::of(&src, n), &mut *out);
-    show_framing(answer, &*out);
+    let answer = link_frame::frame(parts::of(&src, n), out);
+    let end = show::written(answer, &room, 3);
+    show_kept(&room, end);
 }
 
 // One event at a phase with a count and check 44, with a buffer of so many places, and all that it gives.
@@ -76,17 +56,17 @@ fn event_case(phase: Phase, count: usize, event: LinkEvent, places: usize) {
         phase,
     };
     show::state(state);
-    show::number(b" of ", places);
+    show::number(places);
     show::event(event);
     let mut room = [BEFORE; 1025];
     let buffer = parts::lent(&mut room, places);
-    let step = link_receive::receive(state, event, &mut *buffer);
+    let step = link_receive::receive(state, event, buffer);
     let answer = step.answer;
     let next = step.state;
-    show::answer(answer);
-    show::text(b"; ");
+    show::answer(answer, &room);
+    show::mark(b';');
     show::state(next);
-    show_changes(&*buffer, 0);
+    show_kept(&room, 0);
 }
 
 // A byte of each kind, and the timer, where there is room; then the same phase at the limits of its buffer.
@@ -109,6 +89,7 @@ fn phase_cases(phase: Phase) {
 
 // Frames of the most bytes, of one more and of none; then events at each phase.
 pub(crate) fn rows() {
+    show::text(b"frame: byte, how often, places\n");
     frame_case(0x00, 1024, 2051);
     frame_case(0x00, 1024, 1027);
     frame_case(0x00, 1024, 1026);
@@ -119,6 +100,7 @@ pub(crate) fn rows() {
     frame_case(0x00, 1025, 0);
     frame_case(0x00, 0, 3);
     frame_case(0x00, 0, 2);
+    show::text(b"receive: phase (R, I, D, W), check, count, places, event\n");
     phase_cases(Phase::Rest);
     phase_cases(Phase::Inside(Dle::NotSeen));
     phase_cases(Phase::Inside(Dle::Seen));

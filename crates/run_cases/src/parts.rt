@@ -8,18 +8,10 @@ pub(crate) fn of(s: &[u8], n: usize) -> &[u8] {
     s
 }
 
-// What stands behind the first places.
-pub(crate) fn behind(s: &[u8], n: usize) -> &[u8] {
+// The last places of bytes: so many, or all where there are fewer.
+pub(crate) fn last(s: &[u8], n: usize) -> &[u8] {
     if n <= s.len() {
-        return &s[n..];
-    }
-    s
-}
-
-// Of words.
-pub(crate) fn of_words(s: &[u16], n: usize) -> &[u16] {
-    if n <= s.len() {
-        return &s[0..n];
+        return &s[s.len() - n..];
     }
     s
 }

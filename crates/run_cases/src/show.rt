@@ -1,4 +1,5 @@
-// Numbers, states, events and answers as text on standard output.
+// Numbers, bytes and answers as text on standard output.
+use crate::parts;
 use libc::STDOUT_FILENO;
 use link_receive::Dle;
 use link_receive::LinkAnswer;
@@ -8,9 +9,25 @@ use link_receive::Phase;
 use mop_station::StationAnswer;
 use net_hop::JourneyEnd;
 use refusal::Refusal;
+use refusal::WriteAnswer;
 
 pub(crate) fn text(s: &[u8]) {
     io::write_all(STDOUT_FILENO, s);
+}
+
+// One character.
+pub(crate) fn mark(c: u8) {
+    text(&[c]);
+}
+
+// A number, after a space.
+pub(crate) fn number(n: usize) {
+    mark(b' ');
+    io::print_decimal(STDOUT_FILENO, n as u64);
+}
+
+pub(crate) fn word(n: u16) {
+    number(n as usize);
 }
 
 // The last hex digit of a number, as a capital.
@@ -20,93 +37,60 @@ fn hex_digit(n: u8) -> u8 {
 }
 
 // A byte in two hex digits, after a space.
-fn hex(b: u8) {
+pub(crate) fn byte(b: u8) {
     text(&[b' ', hex_digit(b / 16), hex_digit(b)]);
 }
 
-// What the byte is, and the byte.
-pub(crate) fn byte(what: &[u8], b: u8) {
-    text(what);
-    hex(b);
-}
-
-// What the two-byte number is, and the number in four hex digits.
-pub(crate) fn word(what: &[u8], n: u16) {
-    let low = (n % 256) as u8;
-    byte(what, (n / 256) as u8);
-    text(&[hex_digit(low / 16), hex_digit(low)]);
-}
-
-// What the bytes are, and the first n bytes of s, or the first of these where there are more than so many.
-pub(crate) fn start(what: &[u8], s: &[u8], n: usize, most: usize) {
-    text(what);
+fn each_byte(s: &[u8]) {
     let mut i: usize = 0;
     while i < s.len() {
-        if i == n {
-            return;
-        }
-        if i == most {
-            text(b" ..");
-            return;
-        }
-        hex(s[i]);
+        byte(s[i]);
         i += 1;
     }
 }
 
-// A line: what the bytes are, and the first n bytes of s.
-pub(crate) fn row(what: &[u8], s: &[u8], n: usize) {
-    start(what, s, n, n);
-    text(b"\n");
+// The bytes, if there are any, after a colon.
+pub(crate) fn bytes(s: &[u8]) {
+    if 0 < s.len() {
+        mark(b':');
+        each_byte(s);
+    }
 }
 
-// What the number is, and the number.
-pub(crate) fn number(what: &[u8], n: usize) {
-    text(what);
-    io::print_decimal(STDOUT_FILENO, n as u64);
+// The number n, and the first n bytes of s, but not more than so many.
+pub(crate) fn start(s: &[u8], n: usize, most: usize) {
+    number(n);
+    bytes(parts::of(parts::of(s, n), most));
 }
 
 // A refusal, as an answer: all answers begin with a colon.
 pub(crate) fn refusal(r: Refusal) {
-    number(b": refused ", r.number() as usize);
+    text(b": refused");
+    number(r.number() as usize);
 }
 
-// Phase, check and count.
-pub(crate) fn state(s: LinkState) {
-    let phase = s.phase;
-    match phase {
-        Phase::Rest => text(b"rest"),
-        Phase::Inside(dle) => match dle {
-            Dle::NotSeen => text(b"inside"),
-            Dle::Seen => text(b"inside after DLE"),
-        },
-        Phase::Waiting => text(b"waiting"),
-    }
-    byte(b", check", s.check);
-    number(b", count ", s.count);
-}
-
-pub(crate) fn event(e: LinkEvent) {
-    match e {
-        LinkEvent::Byte(b) => byte(b", byte", b),
-        LinkEvent::Timer => text(b", timer"),
-    }
-}
-
-pub(crate) fn answer(a: LinkAnswer) {
+// The answer of a call that writes, with the end of what is written, no more than so many bytes. Gives its length.
+pub(crate) fn written(a: WriteAnswer, out: &[u8], most: usize) -> usize {
     match a {
-        LinkAnswer::Nothing => text(b": nothing"),
-        LinkAnswer::Send(b) => byte(b": sends", b),
-        LinkAnswer::Message(n) => number(b": sends 10, message of ", n),
-        LinkAnswer::Refused(r) => refusal(r),
+        WriteAnswer::Written(n) => {
+            text(b": written");
+            number(n);
+            bytes(parts::last(parts::of(out, n), most));
+            n
+        }
+        WriteAnswer::Refused(r) => {
+            refusal(r);
+            0
+        }
     }
 }
 
-// The answer of a station. Gives the length of what it sends.
-pub(crate) fn station_answer(a: StationAnswer) -> usize {
+// The answer of a station, with the start of what it sends. Gives the length of that.
+pub(crate) fn sent(a: StationAnswer, out: &[u8]) -> usize {
     match a {
         StationAnswer::Sent(n) => {
-            number(b": sent ", n);
+            text(b": sent");
+            start(out, n, 32);
             n
         }
         StationAnswer::NotMine => {
@@ -120,13 +104,53 @@ pub(crate) fn station_answer(a: StationAnswer) -> usize {
     }
 }
 
-// The transmissions of a journey, how it ended, and the length of the last telegram.
-pub(crate) fn journey(count: usize, end: JourneyEnd, n: usize) {
-    number(b": played ", count);
+// The transmissions of a journey, and how it ended.
+pub(crate) fn journey(count: usize, end: JourneyEnd) {
+    text(b": played");
+    number(count);
     match end {
-        JourneyEnd::AtZero => text(b", at 00"),
-        JourneyEnd::AtNobody => text(b", at nobody"),
-        JourneyEnd::Refused(r) => number(b", refused ", r.number() as usize),
+        JourneyEnd::AtZero => text(b" at 00"),
+        JourneyEnd::AtNobody => text(b" at nobody"),
+        JourneyEnd::Refused(r) => refusal(r),
     }
-    number(b", length ", n);
+}
+
+// Phase, check and count. The phase is R at rest, I inside, D inside after DLE, or W waiting.
+pub(crate) fn state(s: LinkState) {
+    let phase = s.phase;
+    mark(b' ');
+    match phase {
+        Phase::Rest => mark(b'R'),
+        Phase::Inside(dle) => match dle {
+            Dle::NotSeen => mark(b'I'),
+            Dle::Seen => mark(b'D'),
+        },
+        Phase::Waiting => mark(b'W'),
+    }
+    byte(s.check);
+    number(s.count);
+}
+
+pub(crate) fn event(e: LinkEvent) {
+    match e {
+        LinkEvent::Byte(b) => byte(b),
+        LinkEvent::Timer => text(b" timer"),
+    }
+}
+
+// The answer of a receiving half, with the message.
+pub(crate) fn answer(a: LinkAnswer, buffer: &[u8]) {
+    match a {
+        LinkAnswer::Nothing => text(b": nothing"),
+        LinkAnswer::Send(b) => {
+            text(b": sends");
+            byte(b);
+        }
+        LinkAnswer::Message(n) => {
+            text(b": sends 10, message of");
+            number(n);
+            bytes(parts::of(buffer, n));
+        }
+        LinkAnswer::Refused(r) => refusal(r),
+    }
 }

@@ -5,17 +5,30 @@ use crate::parts;
 use crate::show;
 use mop_registers::TABLE_LENGTH;
 
-// The places of a table, two more than a station has registers.
-const PLACES: usize = TABLE_LENGTH + 2;
+// The places of all tables: those of 65 stations, and one more.
+const PLACES: usize = 65 * TABLE_LENGTH + 1;
 
-// What tables hold before a call.
-pub(crate) const VALUE_BEFORE: u16 = 0xEEEE;
+// What a table's value is before a call: A000 and its place.
+fn value_before(place: usize) -> u16 {
+    0xA000 + (place % 4096) as u16
+}
+
+// The tables before a call.
+pub(crate) fn tables_before() -> [u16; PLACES] {
+    let mut tables = [0u16; PLACES];
+    let mut i: usize = 0;
+    while i < PLACES {
+        tables[i] = value_before(i);
+        i += 1;
+    }
+    tables
+}
 
 // The first place, from n on, whose value changed; the length where there is none.
 fn first_changed(s: &[u16], n: usize) -> usize {
     let mut i = n;
     while i < s.len() {
-        if s[i] != VALUE_BEFORE {
+        if s[i] != value_before(i) {
             return i;
         }
         i += 1;
@@ -23,90 +36,88 @@ fn first_changed(s: &[u16], n: usize) -> usize {
     s.len()
 }
 
-// The length and the start of a telegram, the first n bytes of t.
-pub(crate) fn show_telegram(t: &[u8], n: usize) {
-    show::number(b", length ", n);
-    show::start(b", telegram", t, n, 16);
-}
-
-// The places lent, and the telegram.
-pub(crate) fn show_lent(lent: usize, t: &[u8], n: usize, places: usize) {
-    show::number(b", table ", lent);
-    show::number(b", output ", places);
-    show_telegram(t, n);
-}
-
-// The place of the table that changed, if one did, and whether more did.
+// How far the registers are as before. If that is not to the end: the value there, and how far those behind it are as
+// before.
 pub(crate) fn show_registers(table: &[u16]) {
     let at = first_changed(table, 0);
+    show::text(b"; registers kept to");
+    show::number(at);
     if at < table.len() {
-        show::number(b", table place ", at);
-        show::word(b" is", table[at]);
-        if first_changed(table, at + 1) < table.len() {
-            show::text(b" and more changed");
-        }
-        return;
+        show::word(table[at]);
+        show::number(first_changed(table, at + 1));
     }
-    show::text(b", registers kept");
+}
+
+// The places lent of a table and of an output, and the telegram.
+pub(crate) fn show_lent(lent: usize, places: usize, t: &[u8], n: usize) {
+    show::number(lent);
+    show::number(places);
+    show::start(t, n, 16);
 }
 
 // A call with so many places of a table and of an output, and the first n bytes of t; and all that it gives.
 fn call(own: u8, lent: usize, t: &[u8], n: usize, places: usize) {
-    show::number(b"own ", own as usize);
-    show_lent(lent, t, n, places);
-    let mut values = [VALUE_BEFORE; PLACES];
+    show::number(own as usize);
+    show_lent(lent, places, t, n);
+    let mut values = tables_before();
     let mut room = [BEFORE; 1025];
     let table = parts::lent_words(&mut values, lent);
     let out = parts::lent(&mut room, places);
-    let answer = mop_station::handle(own, &mut *table, parts::of(t, n), &mut *out);
-    let end = show::station_answer(answer);
-    show_registers(&*table);
-    limits::show_changes(&*out, end);
+    let answer = mop_station::handle(own, table, parts::of(t, n), out);
+    let end = show::sent(answer, &room);
+    show_registers(&values);
+    limits::show_kept(&room, end);
 }
 
-// A request with two entries, and 00s behind them: its first 12 bytes ask for nothing.
-pub(crate) fn request(first: u8, second: u8) -> [u8; 1025] {
+// A telegram with two entries, and 00s behind them: the first 12 bytes of a request ask for nothing.
+pub(crate) fn standard(function: u8, first: u8, second: u8) -> [u8; 1025] {
     let mut t = [0u8; 1025];
-    t[0] = 0x60;
-    t[1] = 0xFF;
-    t[2] = first;
-    t[3] = second;
+    places::put(&[function, 0xFF, first, second], &mut t, 0);
     t
 }
 
 // The call of a station with so many places of its table, and so many bytes of a request: it is a relay for the second
 // station, or the destination if that is 0.
 fn request_case(own: u8, lent: usize, second: u8, n: usize, places: usize) {
-    call(own, lent, &request(own, second), n, places);
+    call(own, lent, &standard(0x60, own, second), n, places);
 }
 
-// The start of an extended telegram: its count, its first two entries, and 00s.
-pub(crate) fn extended(function: u8, count: u8, first: u8, second: u8) -> [u8; 1025] {
-    let mut t = request(0xEF, 0xEF);
-    t[0] = function;
-    t[4] = 0xEF;
-    t[5] = 0xEF;
-    t[6] = count;
-    t[7] = first;
-    t[8] = second;
+// The start of an extended telegram: the first entry of its mark, its count, its first two entries, and 00s.
+pub(crate) fn extended(function: u8, mark: u8, count: u8, first: u8, second: u8) -> [u8; 1025] {
+    let mut t = [0u8; 1025];
+    places::put(
+        &[function, 0xFF, mark, 0xEF, 0xEF, 0xEF, count, first, second],
+        &mut t,
+        0,
+    );
     t
 }
 
 // So many bytes of an extended request with this count, for station 55.
 fn extended_case(count: u8, n: usize) {
-    call(0x55, TABLE_LENGTH, &extended(0x60, count, 0x55, 0), n, 1024);
+    call(
+        0x55,
+        TABLE_LENGTH,
+        &extended(0x60, 0xEF, count, 0x55, 0),
+        n,
+        1024,
+    );
 }
 
 // A request to station 55 with two runs. The first value to write is 1, and the others are 0.
 pub(crate) fn runs(rstart: u16, reads: u8, wstart: u16, writes: u8) -> [u8; 1025] {
-    let mut t = request(0x55, 0);
-    t[6] = (rstart / 256) as u8;
-    t[7] = (rstart % 256) as u8;
-    t[8] = reads;
-    t[9] = (wstart / 256) as u8;
-    t[10] = (wstart % 256) as u8;
-    t[11] = writes;
-    t[13] = 1;
+    let mut t = standard(0x60, 0x55, 0);
+    let body = [
+        (rstart / 256) as u8,
+        (rstart % 256) as u8,
+        reads,
+        (wstart / 256) as u8,
+        (wstart % 256) as u8,
+        writes,
+        0,
+        1,
+    ];
+    places::put(&body, &mut t, 6);
     t
 }
 
@@ -121,30 +132,9 @@ fn body_case(rstart: u16, reads: u8, wstart: u16, writes: u8, n: usize, places: 
     );
 }
 
-// Makes each value of a table A000 and its place.
-fn number_places(table: &mut [u16]) {
-    let mut i: usize = 0;
-    while i < table.len() {
-        table[i] = 0xA000 + (i % 256) as u16;
-        i += 1;
-    }
-}
-
-// A run read from such a table, and the whole reply.
-fn read_case(start: u16, count: u8) {
-    show::number(b"numbered table, ", count as usize);
-    show::number(b" from ", start as usize);
-    let t = runs(start, count, 0, 0);
-    let mut table = [0u16; TABLE_LENGTH];
-    let mut out = [BEFORE; 1024];
-    number_places(&mut table);
-    let answer = mop_station::handle(0x55, &mut table, &t[0..12], &mut out);
-    let end = show::station_answer(answer);
-    show::row(b":", &out, end);
-}
-
 // Own addresses, and lengths of the table; then counts of extended requests, whose bodies ask for nothing.
 pub(crate) fn setups() {
+    show::text(b"handle: own, table, places, telegram\n");
     request_case(0, TABLE_LENGTH, 0, 12, 1024);
     request_case(1, TABLE_LENGTH, 0, 12, 1024);
     request_case(240, TABLE_LENGTH, 0, 12, 1024);
@@ -224,9 +214,9 @@ pub(crate) fn bodies() {
     body_case(955, 1, 300, 1, 13, 1024);
     body_case(955, 1, 300, 1, 14, 1024);
     body_case(955, 1, 300, 1, 15, 1024);
-    read_case(2, 1);
-    read_case(300, 1);
-    read_case(931, 6);
-    read_case(952, 2);
-    read_case(955, 8);
+    body_case(2, 1, 0, 0, 12, 1024);
+    body_case(300, 1, 0, 0, 12, 1024);
+    body_case(931, 6, 0, 0, 12, 1024);
+    body_case(952, 2, 0, 0, 12, 1024);
+    body_case(955, 8, 0, 0, 12, 1024);
 }

@@ -1,58 +1,75 @@
-//! The rows that `run_cases` prints of the calls at their limits. Every row tells a call and, behind
-//! a colon, what came of it. The call is made of the reference, which must tell the same.
+//! The rows that `run_cases` prints of the calls at their limits, in one table for each call. A row
+//! tells a call and, behind a colon, what came of it. The call is made of the reference, which must
+//! tell the same.
 
-use super::hex;
-use crate::answer::{
-    self,
-    heard::{MESSAGE, NOTHING, SEND},
-};
+use super::{message, shown};
+use crate::answer::{self, heard};
 use crate::call::{Call, Outcome};
 use crate::calls::{dry_run, frame, read_reply, station};
 use crate::calls::{receive::Receive, write_request::WriteRequest};
 use crate::lent::Lent;
 use hanraquin::sys::TIMER;
-use hanraquin::{FACTORY, REGISTERS, TELEGRAM};
+use hanraquin::{FRAME_MAX, REGISTERS, STATIONS_MAX, TELEGRAM};
 
-/// What the reference tells of the call of every row.
+/// What the reference tells of a call.
+type Tell = fn(&mut Columns) -> Option<String>;
+
+/// The tables, each with its heading.
+pub const TABLES: [(&str, Tell); 6] = [
+    ("frame: byte, how often, places", frame),
+    ("receive: phase (R, I, D, W), check, count, places, event", event),
+    ("handle: own, table, places, telegram", station),
+    ("dry_run: addresses; tables, places, telegram", net),
+    ("write_request: reads, writes, places, route", request),
+    ("read_reply: telegram", reply),
+];
+
+/// What the reference tells of the call of every row, below the headings as they are.
 pub fn text(rows: &str) -> String {
-    let row = |row: &str| {
-        let (call, _) = row.split_once(": ")?;
-        Some(format!("{call}: {}\n", told(call)?))
+    let mut tell: Option<Tell> = None;
+    let mut line_of = |line: &str| {
+        if let Some((_, table)) = TABLES.iter().find(|(heading, _)| *heading == line) {
+            tell = Some(*table);
+            return Some(line.into());
+        }
+        let call = call_of(line)?;
+        let mut columns = call.split([' ', ':', ';']).filter(|column| !column.is_empty());
+        Some(format!("{call}: {}", tell?(&mut columns)?))
     };
-    rows.lines().map(|line| row(line).unwrap_or_else(|| format!("no row: {line}\n"))).collect()
-}
-
-/// What comes of the call that a row tells.
-fn told(row: &str) -> Option<String> {
-    match row.split([' ', ',']).next()? {
-        "frame" => frame(row),
-        "rest" | "inside" | "waiting" => event(row),
-        "own" => station(row),
-        "numbered" => numbered(row),
-        "net" => net(row),
-        "route" => request(row),
-        "centre" => Some(reply(telegram(row)?)),
-        _ => None,
-    }
+    rows.lines().map(|line| line_of(line).unwrap_or_else(|| format!("no row: {line}")) + "\n").collect()
 }
 
 // What a row says
 
-/// The number behind a word.
-fn number(row: &str, word: &str) -> Option<usize> {
-    let (_, rest) = row.split_once(word)?;
-    rest.split(|c: char| !c.is_ascii_digit()).next()?.parse().ok()
+/// The call of a row: all before the colon with a word behind it.
+fn call_of(row: &str) -> Option<&str> {
+    let is_end = |&(end, _): &(usize, &str)| row[end + 2..].starts_with(|c: char| c.is_ascii_lowercase());
+    let (end, _) = row.match_indices(": ").find(is_end)?;
+    Some(&row[..end])
 }
+
+/// What stands between the spaces, colons and semicolons of a call.
+type Columns<'a> = dyn Iterator<Item = &'a str> + 'a;
+
+fn number(columns: &mut Columns) -> Option<usize> {
+    columns.next()?.parse().ok()
+}
+
+fn byte(columns: &mut Columns) -> Option<u8> {
+    u8::from_str_radix(columns.next()?, 16).ok()
+}
+
+/// The most bytes of a call that are shown.
+const SHOWN: usize = 16;
 
 /// Different addresses in no order, of which nets and routes are made.
 const NAMES: &[u8; 65] = b"zyxwvutsrqponmlkjihgfedcbaABCDEFGHIJKLMNOPQRSTVWXYZ0123456789+-U*";
 
-/// So many bytes, the first of which stand behind a word. Behind those that are shown there are
-/// more names, if they end with one, and then 00.
-fn bytes(row: &str, word: &str, length: usize) -> Option<Vec<u8>> {
-    let (_, rest) = row.split_once(word)?;
-    let pairs = rest.split(' ').skip(1).map(|pair| pair.trim_end_matches(','));
-    let mut bytes: Vec<u8> = pairs.map_while(|pair| u8::from_str_radix(pair, 16).ok()).collect();
+/// So many bytes, of which the first are shown. Behind these there are more names, if they end with
+/// one, and then 00.
+fn bytes(columns: &mut Columns) -> Option<Vec<u8>> {
+    let length = number(columns)?;
+    let mut bytes = (0..length.min(SHOWN)).map(|_| byte(columns)).collect::<Option<Vec<u8>>>()?;
     let last = NAMES.iter().position(|name| bytes.len() < length && bytes.last() == Some(name));
     bytes.extend(last.map_or(&[][..], |last| &NAMES[last + 1..]));
     bytes.resize(length, 0);
@@ -60,9 +77,9 @@ fn bytes(row: &str, word: &str, length: usize) -> Option<Vec<u8>> {
 }
 
 /// The telegram of a row. Behind a block of names there is always the same request or reply.
-fn telegram(row: &str) -> Option<Vec<u8>> {
-    let length = number(row, "length ")?;
-    let mut telegram = bytes(row, "telegram", length)?;
+fn telegram(columns: &mut Columns) -> Option<Vec<u8>> {
+    let mut telegram = bytes(columns)?;
+    let length = telegram.len();
     let end = telegram.get(6).map_or(0, |&count| 7 + usize::from(count));
     if telegram.get(7) == Some(&NAMES[0]) {
         telegram.truncate(end.checked_sub(1)?);
@@ -84,145 +101,123 @@ fn outcome<C: Call>(call: &C) -> Outcome<C> {
     call.outcome(C::REFERENCE, 0)
 }
 
-/// The bytes, or the first of them where there are more than so many.
-fn start(bytes: &[u8], most: usize) -> String {
-    match bytes.get(..most) {
-        Some(start) if bytes.len() > most => hex(start) + " ..",
-        _ => hex(bytes),
+/// How far a slice is as before, from `from` on: to its end, which is that of the array that it is
+/// the beginning of; or the value at a place, and how far it is as before behind that.
+fn kept<T: PartialEq>(before: &[T], after: &[T], from: usize, array: usize, value: fn(&T) -> String) -> String {
+    let mut places = (from..after.len()).filter(|&place| before[place] != after[place]);
+    match places.next() {
+        None => format!("kept to {array}"),
+        Some(place) => format!("kept to {place} {} {}", value(&after[place]), places.next().unwrap_or(array)),
     }
 }
 
-/// The place from `from` on that changed, if one did; a call may change no more.
-fn changes(before: &[u8], after: &[u8], from: usize) -> String {
-    let mut places = (from..after.len()).filter(|&place| before[place] != after[place]);
-    let place = places.next().map(|place| format!(", place {place} is {:02X}", after[place]));
-    let more = if places.next().is_some() { "and more" } else { "nothing else" };
-    format!("{}, {more} changed", place.unwrap_or_default())
+fn bytes_kept(before: &[u8], after: &[u8], from: usize, array: usize) -> String {
+    kept(before, after, from, array, |byte| format!("{byte:02X}"))
 }
 
-/// The place of a table that changed, if one did.
-fn registers_text(before: &[u16], after: &[u16]) -> String {
-    let mut places = (0..after.len()).filter(|&place| before[place] != after[place]);
-    let Some(place) = places.next() else {
-        return ", registers kept".into();
-    };
-    let more = if places.next().is_some() { " and more changed" } else { "" };
-    format!(", table place {place} is {:04X}{more}", after[place])
+fn registers_kept(before: &[u16], after: &[u16]) -> String {
+    let array = (STATIONS_MAX + 1) * REGISTERS + 1;
+    format!("registers {}", kept(before, after, 0, array, u16::to_string))
 }
 
-fn frame(row: &str) -> Option<String> {
-    let data = vec![bytes(row, "bytes", 1)?[0]; number(row, "frame of ")?];
-    let call = frame::frame(&data, number(row, "into ")?);
+fn frame(columns: &mut Columns) -> Option<String> {
+    let data = vec![byte(columns)?; number(columns)?];
+    let call = frame::frame(&data, number(columns)?);
     let outcome = outcome(&call);
-    let (out, end) = (&outcome.after.out, outcome.value());
-    let given = match outcome.is_done() {
-        true => format!("{end} ending{}", hex(&out[end - 3..end])),
-        false => answer::text(outcome.answer, ""),
-    };
-    Some(given + &changes(&call.out, out, end))
+    let (out, length) = (&outcome.after.out, outcome.value());
+    let answer = answer::text(outcome.answer, "written");
+    let kept = bytes_kept(&call.out, out, length, FRAME_MAX + 1);
+    Some(format!("{answer}{}; {kept}", shown(&out[length.saturating_sub(3)..length])))
 }
 
-const PHASES: [&str; 4] = ["rest", "inside", "inside after DLE", "waiting"];
+const PHASES: [&str; 4] = ["R", "I", "D", "W"];
 
-fn event(row: &str) -> Option<String> {
-    let (phase, _) = row.split_once(", check")?;
+fn event(columns: &mut Columns) -> Option<String> {
+    let phase = columns.next()?;
     let phase = PHASES.iter().position(|&name| name == phase)? as u64;
-    let check = bytes(row, "check", 1)?[0];
+    let check = byte(columns)?.into();
     let call = Receive {
-        state: vec![phase, number(row, "count ")? as u64, check.into()].into(),
-        event: bytes(row, "byte", 1).map_or(TIMER, |byte| byte[0].into()),
-        buffer: vec![0xEE; number(row, " of ")?].into(),
+        state: vec![phase, number(columns)? as u64, check].into(),
+        buffer: vec![0xEE; number(columns)?].into(),
+        event: byte(columns).map_or(TIMER, u32::from),
     };
     let outcome = outcome(&call);
+    let buffer = &outcome.after.buffer;
     let answer = match (outcome.is_done(), outcome.value()) {
         (false, _) => answer::text(outcome.answer, ""),
-        (true, NOTHING) => "nothing".into(),
-        (true, value) if value < MESSAGE => format!("sends {:02X}", value - SEND),
-        (true, value) => format!("sends 10, message of {}", value - MESSAGE),
+        (true, heard::NOTHING) => "nothing".into(),
+        (true, value) if value < heard::MESSAGE => format!("sends {:02X}", value - heard::SEND),
+        (true, value) => message(&buffer[..value - heard::MESSAGE]),
     };
     let [phase, count, check] = *outcome.after.state else {
         return None;
     };
     let phase = PHASES[phase as usize];
-    let changes = changes(&call.buffer, &outcome.after.buffer, 0);
-    Some(format!("{answer}; {phase}, check {check:02X}, count {count}{changes}"))
+    let kept = bytes_kept(&call.buffer, buffer, 0, TELEGRAM + 1);
+    Some(format!("{answer}; {phase} {check:02X} {count}; {kept}"))
 }
 
-fn station(row: &str) -> Option<String> {
-    let mut call = station::call(telegram(row)?);
-    call.own = number(row, "own ")? as u8;
-    let places = number(row, "table ")?;
-    call.registers = FACTORY.into_iter().chain([0]).take(places).collect::<Vec<u16>>().into();
-    call.out = Lent::output(number(row, "output ")?);
+fn station(columns: &mut Columns) -> Option<String> {
+    let own = number(columns)? as u8;
+    let registers: Vec<u16> = (0xA000..).take(number(columns)?).collect();
+    let out = Lent::output(number(columns)?);
+    let call = station::Station { own, registers: registers.into(), out, ..station::call(telegram(columns)?) };
     let outcome = outcome(&call);
+    let (after, length) = (&outcome.after, outcome.value());
     let answer = answer::text(outcome.answer, "sent");
-    let registers = registers_text(&call.registers, &outcome.after.registers);
-    Some(answer + &registers + &changes(&call.out, &outcome.after.out, outcome.value()))
+    let registers = registers_kept(&call.registers, &after.registers);
+    let kept = bytes_kept(&call.out, &after.out, length, TELEGRAM + 1);
+    Some(format!("{answer}{}; {registers}; {kept}", shown(&after.out[..length.min(32)])))
 }
 
-/// A run that is read from a table in which the values say their places.
-fn numbered(row: &str) -> Option<String> {
-    let [high, low] = (number(row, "from ")? as u16).to_be_bytes();
-    let count = number(row, "table, ")? as u8;
-    let mut call = station::call(vec![0x60, 0xFF, 0x55, 0, 0, 0, high, low, count, 0, 0, 0]);
-    call.registers = (0xA000..).take(REGISTERS).collect::<Vec<u16>>().into();
-    let outcome = outcome(&call);
-    let sent = hex(&outcome.after.out[..outcome.value()]);
-    Some(format!("{}:{sent}", answer::text(outcome.answer, "sent")))
-}
-
-fn net(row: &str) -> Option<String> {
-    let addresses = bytes(row, "addresses", number(row, "net of ")?)?;
-    let tables = vec![0xEEEE; number(row, "table ")?];
-    let mut call = dry_run::run(telegram(row)?, addresses, tables);
-    call.out = Lent::output(number(row, "output ")?);
+fn net(columns: &mut Columns) -> Option<String> {
+    let addresses = bytes(columns)?;
+    let tables = (0xA000..).take(number(columns)?).collect();
+    let out = Lent::output(number(columns)?);
+    let call = dry_run::DryRun { out, ..dry_run::run(telegram(columns)?, addresses, tables) };
     let outcome = outcome(&call);
     let after = &outcome.after;
-    let answer = answer::text(outcome.answer, "played");
-    let registers = registers_text(&call.tables, &after.tables);
-    if !outcome.is_done() {
-        return Some(answer + &registers + &changes(&call.out, &after.out, 0));
-    }
-    let ending = match after.result[1] {
-        0 => "at 00".into(),
-        1 => "at nobody".into(),
-        number => format!("refused {number}"),
-    };
-    let length = after.result[2] as usize;
-    let last = start(&after.out[..length], 64);
-    let zeros = after.out[length..TELEGRAM].iter().all(|&byte| byte == 0);
-    let behind = if zeros { "" } else { ", NOT 00 behind it" };
-    let changes = changes(&call.out, &after.out, TELEGRAM);
-    Some(format!("{answer}, {ending}, length {length}{registers}, last{last}{behind}{changes}"))
-}
-
-fn request(row: &str) -> Option<String> {
-    let (read, write) = row.split_once(", write ")?;
-    let call = WriteRequest {
-        route: bytes(row, "stations", number(row, "route of ")?)?.into(),
-        read_start: number(read, "from ")? as u16,
-        read_count: number(read, "read ")?,
-        write_start: number(write, "from ")? as u16,
-        values: vec![0xC3D4; number(row, "write ")?].into(),
-        out: Lent::output(number(row, "output ")?),
-    };
-    let outcome = outcome(&call);
-    let (out, end) = (&outcome.after.out, outcome.value());
-    let mut text = answer::text(outcome.answer, "written");
+    let mut text = answer::text(outcome.answer, "played");
     if outcome.is_done() {
-        text += &format!(", telegram{}", start(&out[..end], 48));
+        text += &match after.result[1] {
+            0 => " at 00".into(),
+            1 => " at nobody".into(),
+            number => format!(": refused {number}"),
+        };
+        let length = after.result[2] as usize;
+        let zeros = after.out[length..TELEGRAM].iter().take_while(|&&byte| byte == 0).count();
+        text += &format!("; last {length}{}; 00 to {}", shown(&after.out[..length.min(64)]), length + zeros);
     }
-    Some(text + &changes(&call.out, out, end))
+    let registers = registers_kept(&call.tables, &after.tables);
+    let played = if outcome.is_done() { TELEGRAM } else { 0 };
+    let kept = bytes_kept(&call.out, &after.out, played, TELEGRAM + 1);
+    Some(format!("{text}; {registers}; {kept}"))
 }
 
-fn reply(telegram: Vec<u8>) -> String {
-    let call = read_reply::heard(telegram);
+fn request(columns: &mut Columns) -> Option<String> {
+    let call = WriteRequest {
+        read_start: 955,
+        read_count: number(columns)?,
+        write_start: 300,
+        values: vec![0xC3D4; number(columns)?].into(),
+        out: Lent::output(number(columns)?),
+        route: bytes(columns)?.into(),
+    };
     let outcome = outcome(&call);
-    let (run, route) = (&outcome.after.run, hex(&outcome.after.route));
+    let (out, length) = (&outcome.after.out, outcome.value());
+    let answer = answer::text(outcome.answer, "written");
+    let kept = bytes_kept(&call.out, out, length, TELEGRAM + 1);
+    Some(format!("{answer}{}; {kept}", shown(&out[length.saturating_sub(48)..length])))
+}
+
+fn reply(columns: &mut Columns) -> Option<String> {
+    let call = read_reply::heard(telegram(columns)?);
+    let outcome = outcome(&call);
+    let (run, route) = (&outcome.after.run, shown(&outcome.after.route));
     let (answer, values) = match outcome.is_done() {
         true => ("accepted".into(), &call.telegram[usize::from(run[2])..]),
         false => (answer::text(outcome.answer, ""), &[][..]),
     };
-    let (first, count, values) = (run[0], run[1], start(values, 16));
-    format!("{answer}; route{route}; start {first:04X}; count {count}; values{values}")
+    let (first, count, values) = (run[0], run[1], shown(&values[..values.len().min(16)]));
+    Some(format!("{answer}; route{route}; run {first} {count}; values{values}"))
 }

@@ -24,7 +24,7 @@ struct Mode {
     argument: Option<&'static str>,
     /// What must be printed for an input.
     text: fn(&[u8]) -> String,
-    /// Ends of lines that must be in one of the texts.
+    /// What must be in one of the texts, behind the end of a line.
     needed: &'static [&'static str],
 }
 
@@ -38,14 +38,14 @@ const FRAME: Mode = Mode {
     name: "framing",
     argument: Some("frame"),
     text: play,
-    needed: &["frame: refused 12", ": 3, the same frame", ": 2051, the same frame", ": refused 11"],
+    needed: &["frame: refused 12\n", "frame: written 3: ", "frame: written 2051: "],
 };
 
 const LISTEN: Mode = Mode {
     name: "listening",
     argument: Some("listen"),
     text: feed,
-    needed: &[": nothing", "02: sends 10", ": sends 15", "message of 0", "message of 1024"],
+    needed: &[": nothing\n", "02: sends 10\n", ": sends 15\n", "message of 0\n", "message of 1024: "],
 };
 
 #[rustfmt::skip]
@@ -54,8 +54,8 @@ const PROGRAM: Mode = Mode {
     argument: None,
     text: report::program,
     needed: &[
-        "\nsent 1", "\nsent 6", " refused 7", " refused 8", " refused 9", " refused 10",
-        "\nrefused 2", "\nrefused 3", "\nrefused 4", "\nrefused 5", "\nrefused 6", "\nrefused 12",
+        "\nsent 1\n", "\nsent 6\n", " refused 7\n", " refused 8\n", " refused 9\n", " refused 10\n",
+        "\nrefused 2\n", "\nrefused 3\n", "\nrefused 4\n", "\nrefused 5\n", "\nrefused 6\n", "\nrefused 12\n",
     ],
 };
 
@@ -76,17 +76,17 @@ pub fn compare(run_cases: &str, dry_run: &str, seed: u64) -> io::Result<bool> {
         && PROGRAM.compare(dry_run, &inputs::telegrams(random))?)
 }
 
-/// The first row at the limits that the reference tells in another way, or a kind of rows that is
-/// not there.
+/// The first row at the limits that the reference tells in another way, or a table that is not
+/// there.
 fn wrong_row(rows: &str) -> Option<String> {
     let expected = limits::text(rows);
     let mut lines = rows.lines().zip(expected.lines());
     if let Some((row, expected)) = lines.find(|(row, expected)| row != expected) {
         return Some(format!("{row}\nexpected {expected}"));
     }
-    let kinds = ["frame", "rest", "inside", "waiting", "own", "numbered", "net", "route", "centre"];
-    let missing = |kind: &&str| !rows.lines().any(|row| row.starts_with(*kind));
-    kinds.into_iter().find(missing).map(|kind| format!("no row of the kind {kind:?}"))
+    let headings = limits::TABLES.map(|(heading, _)| heading);
+    let missing = headings.into_iter().find(|heading| !rows.contains(&format!("{heading}\n ")));
+    missing.map(|heading| format!("no rows of {heading:?}"))
 }
 
 impl Mode {
@@ -103,7 +103,7 @@ impl Mode {
             read += input.bytes.len();
             printed += text.len();
             let lines = format!("\n{right}");
-            missing.retain(|needed| !lines.contains(&format!("{needed}\n")));
+            missing.retain(|needed| !lines.contains(needed));
         }
         let (name, runs) = (self.name, inputs.len());
         println!("{name}: {runs} processes, {read} bytes on standard input");
@@ -168,19 +168,26 @@ fn hex(bytes: &[u8]) -> String {
     bytes.iter().map(|byte| format!(" {byte:02X}")).collect()
 }
 
+/// The bytes, if there are any, behind a colon.
+fn shown(bytes: &[u8]) -> String {
+    format!("{}{}", if bytes.is_empty() { "" } else { ":" }, hex(bytes))
+}
+
+/// The answer of a receiving half that has a message.
+fn message(message: &[u8]) -> String {
+    format!("sends 10, message of {}{}", message.len(), shown(message))
+}
+
 /// The text about data that is framed, and whose frame is fed back.
 fn play(data: &[u8]) -> String {
     let mut out = [0; 2 * MAX_DATA + 3];
-    let length = match frame(data, &mut out) {
-        Ok(length) => length,
-        Err(number) => return format!("frame: refused {number}\n"),
-    };
-    let (framed, less) = (&out[..length], length - 1);
-    let mut text = format!("data{}\nframe{}\n", hex(data), hex(framed));
-    text += &format!("into {length} places: {length}, the same frame\ninto {less} places: refused 11\n");
-    text += &feed(&[&[STX], framed].concat());
-    // Every frame is read back as its data.
-    text + "the message is the data\n"
+    match frame(data, &mut out) {
+        Ok(length) => {
+            let framed = &out[..length];
+            format!("frame: written {length}{}\n{}", shown(framed), feed(&[&[STX], framed].concat()))
+        }
+        Err(number) => format!("frame: refused {number}\n"),
+    }
 }
 
 /// The text about bytes that are fed to a half at rest.
@@ -195,10 +202,7 @@ fn feed(bytes: &[u8]) -> String {
         text += &match answer {
             Answer::Nothing => "nothing\n".into(),
             Answer::Send(byte) => format!("sends {byte:02X}\n"),
-            Answer::Message(count) => {
-                let message = hex(&buffer[..count]);
-                format!("sends 10, message of {count}\nmessage{message}\n")
-            }
+            Answer::Message(count) => message(&buffer[..count]) + "\n",
             Answer::Refused(number) => format!("refused {number}\n"),
         };
     }
@@ -214,7 +218,7 @@ mod tests {
         let file = concat!(env!("CARGO_MANIFEST_DIR"), "/../../crates/run_cases/stdout");
         let rows = std::fs::read_to_string(file).expect("the rows that run_cases prints");
         assert_eq!(wrong_row(&rows), None);
-        for (row, wrong) in [("sent 9", "sent 8"), ("own 1,", "own 0,"), ("refused 12", "refused 2")] {
+        for (row, wrong) in [("sent 9", "sent 8"), (" 1 18", " 0 18"), ("refused 12", "refused 2")] {
             assert!(wrong_row(&rows.replacen(row, wrong, 1)).is_some());
         }
         assert!(wrong_row("").is_some());

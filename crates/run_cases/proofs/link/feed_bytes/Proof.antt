@@ -8,10 +8,10 @@ use Rattle.run_cases.proofs.link.feed_bytes.Statement.{statement}
 use Rattle.run_cases.proofs.link.feed_bytes.Tie as tie
 
 abbrev Inv-loop : tie.InvT-loop
-Inv-loop bytes buffer₀ last₀ i₀ buffer last i = (length buffer ≡ length buffer₀) × (i ≤ length bytes)
+Inv-loop bytes buffer₀ state₀ i₀ buffer state i = (length buffer ≡ length buffer₀) × (i ≤ length bytes)
 
 abbrev μ-loop : tie.MeasureT-loop
-μ-loop bytes buffer₀ last₀ i₀ buffer last i = length bytes - i
+μ-loop bytes buffer₀ state₀ i₀ buffer state i = length bytes - i
 
 loop-holds : tie.Need-loop-holds Inv-loop μ-loop
 loop-holds c = search needs

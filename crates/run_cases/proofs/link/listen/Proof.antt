@@ -7,10 +7,10 @@ use Rattle.run_cases.proofs.link.listen.Statement.{statement}
 use Rattle.run_cases.proofs.link.listen.Tie as tie
 
 abbrev Inv-loop : tie.InvT-loop
-Inv-loop input₀ buffer₀ last₀ turns₀ input buffer last turns = (length input ≡ 4096) × (length buffer ≡ 1024)
+Inv-loop input₀ buffer₀ state₀ turns₀ input buffer state turns = (length input ≡ 4096) × (length buffer ≡ 1024)
 
 abbrev μ-loop : tie.MeasureT-loop
-μ-loop input₀ buffer₀ last₀ turns₀ input buffer last turns = turns
+μ-loop input₀ buffer₀ state₀ turns₀ input buffer state turns = turns
 
 buffer-requires : tie.Need-buffer-requires Inv-loop μ-loop
 buffer-requires c κs = search needs

@@ -21,6 +21,9 @@ mul-if1 c = search needs
 shared-slice-read-if1 : tie.Need-shared-slice-read-if1 Inv-loop μ-loop
 shared-slice-read-if1 c = search needs
 
+value-before-requires : tie.Need-value-before-requires Inv-loop μ-loop
+value-before-requires c κs = search needs
+
 returns : tie.Need-returns Inv-loop μ-loop
 returns c = search needs
 
@@ -45,6 +48,7 @@ first-changed-spec =
     loop-holds
     mul-if1
     shared-slice-read-if1
+    value-before-requires
     returns
     add-i
     loop-less
