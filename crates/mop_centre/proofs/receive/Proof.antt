@@ -1,10 +1,11 @@
 -- `receive`: the first entry, then the length of the body.
 -- Assumes nothing.
-use mathlib.Core.Path.{sym, _∙_, ap}
+use mathlib.Core.Path.{_≡_, sym, _∙_, ap}
 use native.Mathlib.Omega.{arith}
 use borrow.Author.Tests.{eqb-true, not-true, not-false}
 use lib.ListN.{drop}
-use Rattle.mop_header.specs.Header.{blockStart}
+use Rattle.mop_block.specs.Block.{first}
+use Rattle.mop_header.specs.Header.{headOf, blockStart}
 use Rattle.mop_reader.specs.declared.Reader.the-variants.{Centre}
 use Rattle.mop_reader.proofs.ReadBack.{sound-room}
 use Rattle.mop_centre.specs.Reply.{ReplyReading}
@@ -14,6 +15,21 @@ use borrow.Author.Needs.{needs}
 use Rattle.mop_centre.proofs.receive.Statement.{statement}
 use Rattle.mop_centre.proofs.receive.Tie as tie
 
+-- where `receive` starts, seen from where the header is measured, and that, seen from the first entry
+abbrev begun : tie.After-length → tie.Start
+begun m = m .before .before .before
+
+abbrev measured : tie.After-first → tie.After-length
+measured f = f .before .before .before
+
+-- the first entry is the one of the block in the telegram
+entry : (f : tie.After-first) →
+    (let a = begun (measured f) .args in
+    f .first .result ≡ first (headOf (a .header) (drop (blockStart (a .header .form)) (a .telegram .now)) .block))
+entry f =
+    let m = measured f in
+    rw (rest-from (begun m .args .telegram .now) (m .before .block-start .ensures)) at (f .first .ensures)
+
 block-start-requires : tie.Need-block-start-requires
 block-start-requires c κs = search needs
 
@@ -21,7 +37,7 @@ length-requires : tie.Need-length-requires
 length-requires c κs = search needs
 
 sub-block : tie.Need-sub-block
-sub-block c = omega (arith, block-room _ _ (c .before .before .before .pre), c .before .block-start .ensures)
+sub-block c = omega (arith, block-room _ _ (begun c .pre), c .before .block-start .ensures)
 
 part-block-start : tie.Need-part-block-start
 part-block-start c = sub-block c
@@ -31,8 +47,9 @@ part-block-end c = search needs
 
 sub-body : tie.Need-sub-body
 sub-body c =
-    let a = c .before .before .before .before .args in
-    omega (arith, sound-room Centre _ _ (c .before .before .before .before .pre), c .before .length .ensures (drop (blockStart (a .header .form)) (a .telegram .now)))
+    let s = begun (c .before) in
+    let long = c .before .length .ensures (drop (blockStart (s .args .header .form)) (s .args .telegram .now)) in
+    omega (arith, sound-room Centre _ _ (s .pre), long)
 
 part-body-start : tie.Need-part-body-start
 part-body-start c = sub-body c
@@ -48,11 +65,10 @@ unread-requires c κs = search needs
 
 returns : tie.Need-returns
 returns c =
-    let a = c .before .before .before .before .before .before .before .before .args in
-    let tg = a .telegram .now in
-    let read = c .before .before .before .before .before .before .before .before .pre in
-    let entry = rw (rest-from tg (c .before .before .before .before .before .before .block-start .ensures)) at (c .before .before .first .ensures) in
-    c .unread .ensures ∙ sym (ap (λ (r : ReplyReading). r .answer) (station-read tg read (λ e. c .before .if1 .taken (entry ∙ e))))
+    let f = c .before .before in
+    let s = begun (measured f) in
+    let other = station-read (s .args .telegram .now) (s .pre) (λ e. c .before .if1 .taken (entry f ∙ e)) in
+    c .unread .ensures ∙ sym (ap (λ (r : ReplyReading). r .answer) other)
 
 is-counted-requires : tie.Need-is-counted-requires
 is-counted-requires c κs = search needs
@@ -62,31 +78,34 @@ unread-requires-2 c κs = search needs
 
 returns-2 : tie.Need-returns-2
 returns-2 c =
-    let a = c .before .before .before .before .before .before .before .before .before .before .args in
-    let tg = a .telegram .now in
-    let read = c .before .before .before .before .before .before .before .before .before .before .pre in
-    let entry = rw (rest-from tg (c .before .before .before .before .before .before .before .before .block-start .ensures)) at (c .before .before .before .before .first .ensures) in
-    let behind = body-from tg _ (c .before .before .before .before .before .before .before .length .ensures (drop (blockStart (a .header .form)) tg)) in
+    let f = c .before .before .before .before in
+    let m = measured f in
+    let s = begun m in
+    let tg = s .args .telegram .now in
+    let mine = sym (entry f) ∙ c .before .before .before .if1 .left in
+    let behind = body-from tg _ (m .length .ensures (drop (blockStart (s .args .header .form)) tg)) in
     let short = sym (c .before .before .is-counted .ensures) ∙ not-true _ (c .before .if2 .taken) in
-    c .unread2 .ensures ∙ sym (ap (λ (r : ReplyReading). r .answer) (miscounted-read tg read (sym entry ∙ c .before .before .before .if1 .left) behind short))
+    c .unread2 .ensures ∙ sym (ap (λ (r : ReplyReading). r .answer) (miscounted-read tg (s .pre) mine behind short))
 
 read-out-requires : tie.Need-read-out-requires
 read-out-requires c κs =
-    let tg = c .before .before .before .before .before .before .before .before .before .args .telegram .now in (
+    let m = measured (c .before .before .before) in
+    let tg = begun m .args .telegram .now in (
       omega (arith, eqb-true, sym (c .before .is-counted .ensures) ∙ not-false _ (c .if2 .left)),
-      rw (rest-from tg (c .before .before .before .before .before .before .before .block-start .ensures)) (route-room tg (c .before .before .before .before .before .before .before .before .before .pre)),
+      rw (rest-from tg (m .before .block-start .ensures)) (route-room tg (begun m .pre)),
     )
 
 returns-3 : tie.Need-returns-3
 returns-3 c =
-    let a = c .before .before .before .before .before .before .before .before .before .before .args in
-    let tg = a .telegram .now in
-    let read = c .before .before .before .before .before .before .before .before .before .before .pre in
-    let entry = rw (rest-from tg (c .before .before .before .before .before .before .before .before .block-start .ensures)) at (c .before .before .before .before .first .ensures) in
-    let behind = body-from tg _ (c .before .before .before .before .before .before .before .length .ensures (drop (blockStart (a .header .form)) tg)) in
+    let f = c .before .before .before .before in
+    let m = measured f in
+    let s = begun m in
+    let tg = s .args .telegram .now in
+    let mine = sym (entry f) ∙ c .before .before .before .if1 .left in
+    let behind = body-from tg _ (m .length .ensures (drop (blockStart (s .args .header .form)) tg)) in
     let long = sym (c .before .before .is-counted .ensures) ∙ not-false _ (c .before .if2 .left) in
-    rw (rest-from tg (c .before .before .before .before .before .before .before .before .block-start .ensures)) at (c .read-out .ensures)
-    ∙ sym (ap (λ (r : ReplyReading). r .answer) (counted-read tg read (sym entry ∙ c .before .before .before .if1 .left) behind long))
+    rw (rest-from tg (m .before .block-start .ensures)) at (c .read-out .ensures)
+    ∙ sym (ap (λ (r : ReplyReading). r .answer) (counted-read tg (s .pre) mine behind long))
 
 pub receive-spec : {M : Type 1} → statement M
 receive-spec =

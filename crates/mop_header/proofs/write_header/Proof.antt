@@ -9,6 +9,17 @@ use borrow.Author.Needs.{needs}
 use Rattle.mop_header.proofs.write_header.Statement.{statement}
 use Rattle.mop_header.proofs.write_header.Tie as tie
 
+-- where `write_header` starts, seen from the function byte
+abbrev begun : tie.After-function-byte → tie.Start
+begun s = s .before .before .before
+
+-- each form, seen from behind the bytes before its block
+abbrev standard : tie.After-put → tie.After-enum-told
+standard s = s .before .before .before
+
+abbrev extended : tie.After-put2 → tie.After-form
+extended s = s .before .before .before .before
+
 function-byte-requires : tie.Need-function-byte-requires
 function-byte-requires c κs = search needs
 
@@ -23,8 +34,10 @@ put-requires c κs = search needs
 
 put-block-requires : tie.Need-put-block-requires
 put-block-requires c κs =
-    let a = c .before .before .before .before .before .before .before .before .before .before .before .args in
-    (omega (arith, counted (a .header) (a .block .now), ap blockStart (c .before .before .before .before .before .before .enum-told .given .1), c .before .before .before .put .kept .1 .0))
+    let s = c .before .before .before in
+    let form = standard s in
+    let a = begun (form .before .before) .args in
+    (omega (arith, counted (a .header) (a .block .now), ap blockStart (form .enum-told .given .1), s .put .kept .1 .0))
 
 enum-known-form : tie.Need-enum-known-form
 enum-known-form c = search needs
@@ -37,27 +50,35 @@ put-requires-2 c κs = search needs
 
 put-block-requires-2 : tie.Need-put-block-requires-2
 put-block-requires-2 c κs =
-    let a = c .before .before .before .before .before .before .before .before .before .before .before .before .args in
-    (omega (arith, counted (a .header) (a .block .now), ap blockStart (c .before .before .before .before .before .before .before .form .given .1), c .before .before .before .put2 .kept .1 .0))
+    let s = c .before .before .before in
+    let form = extended s in
+    let a = begun (form .before .before) .args in
+    (omega (arith, counted (a .header) (a .block .now), ap blockStart (form .form .given .1), s .put2 .kept .1 .0))
 
 same-length : tie.Need-same-length
 same-length c = search needs
 
 returns : tie.Need-returns
 returns c =
-    let a = c .before .before .before .before .before .before .before .before .before .before .before .before .before .before .args in
-    rw (c .before .before .put-block .ensures, c .before .before .before .before .before .before .put .ensures)
-    (standard-stored (headOf (a .header) (a .block .now)) (a .out .now) (c .before .before .before .before .before .before .before .before .before .before .before .function-byte .ensures) refl (c .before .before .before .before .before .before .before .before .before .enum-told .given .1))
+    let s = c .before .before .before .before .before .before in
+    let form = standard s in
+    let f = form .before .before in
+    let a = begun f .args in
+    rw (c .before .before .put-block .ensures, s .put .ensures)
+    (standard-stored (headOf (a .header) (a .block .now)) (a .out .now) (f .function-byte .ensures) refl (form .enum-told .given .1))
 
 same-length-2 : tie.Need-same-length-2
 same-length-2 c = search needs
 
 returns-2 : tie.Need-returns-2
 returns-2 c =
-    let at-put2 = c .before .before .before .before .before .before in
-    let a = at-put2 .before .before .before .before .before .before .before .before .before .args in
-    rw (c .before .before .put-block2 .ensures, at-put2 .put2 .ensures)
-    (extended-stored (headOf (a .header) (a .block .now)) (a .out .now) (at-put2 .before .before .before .before .before .before .function-byte .ensures) refl (at-put2 .before .before .before .before .form .given .1) (sym (length-block (a .header) (a .block .now))))
+    let s = c .before .before .before .before .before .before in
+    let form = extended s in
+    let f = form .before .before in
+    let a = begun f .args in
+    let count = sym (length-block (a .header) (a .block .now)) in
+    rw (c .before .before .put-block2 .ensures, s .put2 .ensures)
+    (extended-stored (headOf (a .header) (a .block .now)) (a .out .now) (f .function-byte .ensures) refl (form .form .given .1) count)
 
 pub write-header-spec : {M : Type 1} → statement M
 write-header-spec =

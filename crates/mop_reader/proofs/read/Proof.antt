@@ -1,6 +1,7 @@
 -- `read`: the tests in their order, and then the block where it stands in this form.
 -- Assumes nothing.
 use mathlib.Core.Path.{_≡_, sym, _∙_, ap}
+use mathlib.Core.Bool.{Bool}
 use mathlib.Core.Logic.{⊎-elim}
 use Prim.Native.Nat.{_+_, _-_}
 use native.Mathlib.Omega.{arith}
@@ -12,36 +13,22 @@ use Rattle.mop_reader.specs.Reading.{functionAt, readingOf, reading, ext
 use Rattle.mop_reader.proofs.Steps.{too-long, cut, not-allowed, by-form, count-cut, count-small, count-large, block-cut, behind-mark, without-mark}
 use Rattle.mop_reader.proofs.read.Statement.{statement}
 use Rattle.mop_reader.proofs.read.Tie as tie
-use Rattle.mop_reader.proofs.read.Reads as reads
-use Rattle.mop_reader.proofs.read.Lts as lts
-use Rattle.mop_reader.proofs.is_allowed.Reads as is-allowed-reads
-use Rattle.mop_reader.proofs.function_of.Reads as function-of-reads
-use Rattle.mop_reader.proofs.is_mark.Reads as is-mark-reads
-use Rattle.mop_reader.proofs.form_of.Reads as form-of-reads
-use Rattle.mop_reader.proofs.judge.Reads as judge-reads
+
+-- where `read` starts, seen from its first byte
+abbrev begun : tie.After-shared-slice-known2 → tie.Start
+begun s = s .before .before .before .before
 
 -- the three refusals and the form are behind: by whether the four entries are the mark
-abbrev Marked : Type 0
-Marked =
-    lts.After-is-mark (
-      is-allowed-reads.Asked,
-      is-allowed-reads.Learnt,
-      function-of-reads.Asked,
-      function-of-reads.Learnt,
-      is-mark-reads.Asked,
-      is-mark-reads.Learnt,
-      form-of-reads.Asked,
-      form-of-reads.Learnt,
-      judge-reads.Asked,
-      judge-reads.Learnt,
-    ) reads.Pre reads.Post
-
-form-is : (a : Marked) → (let who = a .before .before .before .before .before .before .before .before .before .before .before .before .args .reader in let tg = a .before .before .before .before .before .before .before .before .before .before .before .before .args .telegram .now in
-    reading who tg ≡ pick (a .is-mark .result) (extendedReading who tg) (standardReading who tg))
-form-is a =
+form-is : (a : tie.After-is-mark) {marked : Bool} → a .is-mark .result ≡ marked →
+    (let s = begun (a .before .before .before .before .before .before .before .before) in let who = s .args .reader in let tg = s .args .telegram .now in
+    reading who tg ≡ pick marked (extendedReading who tg) (standardReading who tg))
+form-is a e =
     let g = a .before .before .before .before .before in
     let k = g .before .before in
+    let who = begun (k .before) .args .reader in
+    let tg = begun (k .before) .args .telegram .now in
     by-form _ _ (k .before .before .before .if1 .left) (k .before .before .if2 .left) (k .is-allowed .ensures) (g .before .if3 .left) (g .function-of .ensures) (a .is-mark .ensures)
+    ∙ ap (λ (marked : Bool). pick marked (extendedReading who tg) (standardReading who tg)) e
 
 returns : tie.Need-returns
 returns c = sym (too-long _ _ (c .if1 .taken))
@@ -77,7 +64,7 @@ is-mark-requires : tie.Need-is-mark-requires
 is-mark-requires c κs = search needs
 
 returns-4 : tie.Need-returns-4
-returns-4 c = sym (form-is (c .before .before) ∙ rw (c .before .if4 .taken) (count-cut _ _ (c .if5 .taken)))
+returns-4 c = sym (form-is (c .before .before) (c .before .if4 .taken) ∙ count-cut _ _ (c .if5 .taken))
 
 shared-slice-read-entries : tie.Need-shared-slice-read-entries
 shared-slice-read-entries c = search needs
@@ -86,16 +73,16 @@ cast-count : tie.Need-cast-count
 cast-count c = omega (arith, c .shared-slice-known7 .given 6)
 
 returns-5 : tie.Need-returns-5
-returns-5 c = sym (form-is (c .before .before .before .before) ∙ rw (c .before .before .before .if4 .taken) (count-small _ _ (omega arith) (c .if6 .taken)))
+returns-5 c = sym (form-is (c .before .before .before .before) (c .before .before .before .if4 .taken) ∙ count-small _ _ (omega arith) (c .if6 .taken))
 
 returns-6 : tie.Need-returns-6
-returns-6 c = sym (form-is (c .before .before .before .before .before) ∙ rw (c .before .before .before .before .if4 .taken) (count-large _ _ (omega arith) (c .if7 .taken)))
+returns-6 c = sym (form-is (c .before .before .before .before .before) (c .before .before .before .before .if4 .taken) ∙ count-large _ _ (omega arith) (c .if7 .taken))
 
 add-end : tie.Need-add-end
 add-end c = search needs
 
 returns-7 : tie.Need-returns-7
-returns-7 c = sym (form-is (c .before .before .before .before .before .before) ∙ rw (c .before .before .before .before .before .if4 .taken) (block-cut _ _ (omega arith) (omega arith) (omega arith) (c .if8 .taken)))
+returns-7 c = sym (form-is (c .before .before .before .before .before .before) (c .before .before .before .before .before .if4 .taken) ∙ block-cut _ _ (omega arith) (omega arith) (omega arith) (c .if8 .taken))
 
 shared-slice-read-form-of : tie.Need-shared-slice-read-form-of
 shared-slice-read-form-of c = search needs
@@ -125,17 +112,15 @@ returns-8 c =
     let j = q .before .before in
     let a = j .before in
     let g = a .before .before .before .before .before in
-    let form = form-is a in
-    let tg = a .before .before .before .before .before .before .before .before .before .before .before .before .args .telegram .now in
-    let who = a .before .before .before .before .before .before .before .before .before .before .before .before .args .reader in
+    let tg = begun (g .before .before .before) .args .telegram .now in
     ⊎-elim
     (λ w.
     let end : (7 + getD tg 6 0) - 7 ≡ getD tg 6 0 = omega arith in
     (rw (q .form-of .ensures, w .0 .taken, w .6, w .7, g .function-of .ensures, end) at (c .judge .ensures tg (drop (getD tg 6 0) (drop 7 tg)))) (sym (take-append-drop (getD tg 6 0) (drop 7 tg)))
-    ∙ sym (form ∙ rw (w .0 .taken) (behind-mark _ tg (w .1 .left) (w .3 .left) (w .4 .left) (w .5 .left))))
+    ∙ sym (form-is a (w .0 .taken) ∙ behind-mark _ tg (w .1 .left) (w .3 .left) (w .4 .left) (w .5 .left)))
     (λ w.
     (rw (q .form-of .ensures, w .0 .left, w .1, w .2, g .function-of .ensures) at (c .judge .ensures tg (drop 4 (drop 2 tg)))) (sym (take-append-drop 4 (drop 2 tg)))
-    ∙ sym (form ∙ rw (w .0 .left) (without-mark _ tg)))
+    ∙ sym (form-is a (w .0 .left) ∙ without-mark _ tg))
     (j .if4 .came)
 
 pub read-spec : {M : Type 1} → statement M

@@ -13,31 +13,23 @@ use mathlib.Core.Path.{_≡_, sym, _∙_, ap, ap₂}
 use borrow.Author.Needs.{needs}
 use Rattle.net_dry_run.proofs.run.Statement.{statement}
 use Rattle.net_dry_run.proofs.run.Tie as tie
-use Rattle.net_dry_run.proofs.run.Reads as reads
-use Rattle.net_dry_run.proofs.run.Lts as lts
-use Rattle.net_hop.proofs.places_of.Reads as places-of-reads
-use Rattle.net_dry_run.proofs.walk.Reads as walk-reads
-use Rattle.net_dry_run.proofs.end_run.Reads as end-run-reads
-use Rattle.net_dry_run.proofs.go_home.Reads as go-home-reads
+
+-- where `run` starts, seen from the end of the first leg
+abbrev begun : tie.After-walk → tie.Start
+begun s = s .before .before .before .before .before .before .before .before .before .before
+
+-- the end of the first leg, seen from each case of its halt
+abbrev walked : tie.After-halt → tie.After-walk
+walked s = s .before .before .before .before .before .before
+
+abbrev walked-2 : tie.After-halt2 → tie.After-walk
+walked-2 s = s .before .before .before .before .before .before
 
 -- the first leg, and what it says of the journey
-abbrev Walked : Type 0
-Walked =
-    lts.After-walk (
-      places-of-reads.Asked,
-      places-of-reads.Learnt,
-      walk-reads.Asked,
-      walk-reads.Learnt,
-      end-run-reads.Asked,
-      end-run-reads.Learnt,
-      go-home-reads.Asked,
-      go-home-reads.Learnt,
-    ) reads.Pre reads.Post
-
-led : (s : Walked) {x : Halt} → s .walk .result .halt ≡ x →
-    Leads (s .before .before .before .before .before .before .before .before .before .before .args .addresses .now) (s .before .before .before .before .places-of .result) (s .before .before .before .before .before .before .before .before .before .before .args .tables .now) 0 (headOf (s .before .before .before .before .before .before .before .before .before .before .args .first) (s .before .before .before .before .before .before .before .before .before .before .args .block .now))
-    (s .before .before .before .before .before .before .before .before .before .before .args .body .now) (s .walk .last .1 .1 .1 .1 .1 .1 .0) (s .walk .last .1 .1 .1 .1 .1 .1 .1 .0) (s .walk .result .gone)
-    (headOf (s .walk .result .header) (s .before .before .before .before .before .before .before .before .before .before .args .block .now)) x
+led : (s : tie.After-walk) {x : Halt} → s .walk .result .halt ≡ x →
+    (let a = begun s .args in let left = s .walk .last .1 .1 .1 .1 .1 .1 in
+    Leads (a .addresses .now) (s .before .before .before .before .places-of .result) (a .tables .now) 0 (headOf (a .first) (a .block .now)) (a .body .now)
+    (left .0) (left .1 .0) (s .walk .result .gone) (headOf (s .walk .result .header) (a .block .now)) x)
 led s e = leads-as _ _ _ _ _ _ _ _ _ _ e (s .walk .ensures)
 
 places-of-requires : tie.Need-places-of-requires
@@ -53,13 +45,13 @@ enum-known-halt : tie.Need-enum-known-halt
 enum-known-halt c = search needs
 
 add-end-run : tie.Need-add-end-run
-add-end-run c = omega (arith, led (c .before .before .before .before .before .before .before) (c .before .halt .given .1) .most)
+add-end-run c = omega (arith, led (walked (c .before)) (c .before .halt .given .1) .most)
 
 end-run-requires : tie.Need-end-run-requires
 end-run-requires c κs =
     let at-halt = c .before .before in
-    let walked = at-halt .before .before .before .before .before .before in
-    (led walked (at-halt .halt .given .1) .short, walked .before .before .before .before .before .before .before .before .before .before .pre .1)
+    let s = walked at-halt in
+    (led s (at-halt .halt .given .1) .short, begun s .pre .1)
 
 enum-known-halt-2 : tie.Need-enum-known-halt-2
 enum-known-halt-2 c = search needs
@@ -71,14 +63,14 @@ part-go-home-start : tie.Need-part-go-home-start
 part-go-home-start c = search needs
 
 part-go-home-end : tie.Need-part-go-home-end
-part-go-home-end c = led (c .before .before .before .before .before .before .before .before) (c .before .before .halt2 .given .1) .0
+part-go-home-end c = led (walked-2 (c .before .before)) (c .before .before .halt2 .given .1) .0
 
 go-home-requires : tie.Need-go-home-requires
 go-home-requires c κs =
     let at-halt2 = c .before .before .before .before .before .before in
-    let walked = at-halt2 .before .before .before .before .before .before in
-    let p = led walked (at-halt2 .halt2 .given .1) .1 in
-    (rw sub-zero (p .onward), (p .back, walked .before .before .before .before .before .before .before .before .before .before .pre .1))
+    let s = walked-2 at-halt2 in
+    let p = led s (at-halt2 .halt2 .given .1) .1 in
+    (rw sub-zero (p .onward), (p .back, begun s .pre .1))
 
 same-length : tie.Need-same-length
 same-length c = search needs
@@ -88,9 +80,11 @@ same-length-2 c = search needs
 
 returns : tie.Need-returns
 returns c =
-    let s = c .before .before .before .before .before .before .before .before .before .before .before in
-    ap₂ (λ (o : Outcome) (out : List ℕ). leaves o (s .walk .last .1 .1 .1 .1 .1 .1 .0) out) (c .before .before .end-run .ensures .0) (c .before .before .end-run .ensures .1)
-    ∙ run-ends (s .before .before .before .before .before .before .before .before .before .before .args .out .now) (led s (c .before .before .before .before .before .halt .given .1))
+    let at-halt = c .before .before .before .before .before in
+    let s = walked at-halt in
+    let ended = c .before .before .end-run .ensures in
+    ap₂ (λ (o : Outcome) (out : List ℕ). leaves o (s .walk .last .1 .1 .1 .1 .1 .1 .0) out) (ended .0) (ended .1)
+    ∙ run-ends (begun s .args .out .now) (led s (at-halt .halt .given .1))
 
 same-length-3 : tie.Need-same-length-3
 same-length-3 c = search needs
@@ -100,9 +94,11 @@ same-length-4 c = search needs
 
 returns-2 : tie.Need-returns-2
 returns-2 c =
-    let at-halt2 = c .before .before .before .before .before .before .before .before .before .before .before in
-    let s = at-halt2 .before .before .before .before .before .before in
-    (rw sub-zero at (c .before .before .before .before .go-home .ensures)) ∙ ap (λ (x : Summary). ofSummary x (s .before .before .before .before .before .before .before .before .before .before .args .out .now)) (sym (led s (at-halt2 .halt2 .given .1) .1 .whole))
+    let home = c .before .before .before .before in
+    let at-halt2 = home .before .before .before .before .before .before .before in
+    let s = walked-2 at-halt2 in
+    (rw sub-zero at (home .go-home .ensures))
+    ∙ ap (λ (x : Summary). ofSummary x (begun s .args .out .now)) (sym (led s (at-halt2 .halt2 .given .1) .1 .whole))
 
 pub run-spec : {M : Type 1} → statement M
 run-spec =

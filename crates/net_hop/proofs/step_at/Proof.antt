@@ -1,7 +1,6 @@
 -- `step_at`: the station's table is a part of the tables.
 -- Assumes nothing.
 use Rattle.net_hop.proofs.Hops.{stepped-at}
-use Rattle.mop_header.specs.Header.{headOf}
 use Rattle.mop_registers.proofs.Places.{table-length}
 use Rattle.mop_registers.specs.Rows.{tableLength}
 use native.Mathlib.Omega.{arith}
@@ -14,6 +13,13 @@ use Rattle.net_hop.proofs.step_at.Tie as tie
 -- how long the part is
 size : (start : ℕ) → (start + tableLength) - start ≡ tableLength
 size start = omega arith
+
+-- the step, seen from where its answer is looked at, and where `step_at` starts, seen from the step
+abbrev stepped : tie.After-slice-known4 → tie.After-step
+stepped s = s .before .before .before .before
+
+abbrev begun : tie.After-step → tie.Start
+begun s = s .before .before .before .before .before .before .before
 
 mul-start : tie.Need-mul-start
 mul-start c = let l = rw table-length at (c .before .before .before .before .pre) in omega arith
@@ -57,9 +63,9 @@ same-length-2 c = search needs
 returns : tie.Need-returns
 unfolding tableLength
 returns c =
-    let a = c .before .before .before .before .before .before .before .before .before .before .before .before .before .before .args in
-    let s = c .before .before .before .before .before .before .before .step in
-    stepped-at (a .own) (a .place) (headOf (a .header) (a .block .now)) (a .body .now) (a .tables .now) (a .reply .now) (s .result) (a .block .now) _ _ refl (size (tableLength * a .place)) (s .ensures) (c .before .h .given .1)
+    let s = stepped (c .before .before .before) in
+    let a = begun s .args in
+    stepped-at (a .own) (a .place) _ _ _ _ _ _ _ _ refl (size (tableLength * a .place)) (s .step .ensures) (c .before .h .given .1)
 
 same-length-3 : tie.Need-same-length-3
 same-length-3 c = search needs
@@ -70,9 +76,9 @@ same-length-4 c = search needs
 returns-2 : tie.Need-returns-2
 unfolding tableLength
 returns-2 c =
-    let a = c .before .before .before .before .before .before .before .before .before .before .before .before .before .before .args in
-    let s = c .before .before .before .before .before .before .before .step in
-    stepped-at (a .own) (a .place) (headOf (a .header) (a .block .now)) (a .body .now) (a .tables .now) (a .reply .now) (s .result) (a .block .now) _ _ refl (size (tableLength * a .place)) (s .ensures) (c .before .h2 .given .1)
+    let s = stepped (c .before .before .before) in
+    let a = begun s .args in
+    stepped-at (a .own) (a .place) _ _ _ _ _ _ _ _ refl (size (tableLength * a .place)) (s .step .ensures) (c .before .h2 .given .1)
 
 same-length-5 : tie.Need-same-length-5
 same-length-5 c = search needs
@@ -83,9 +89,9 @@ same-length-6 c = search needs
 returns-3 : tie.Need-returns-3
 unfolding tableLength
 returns-3 c =
-    let a = c .before .before .before .before .before .before .before .before .before .before .before .before .before .args in
-    let s = c .before .before .before .before .before .before .step in
-    stepped-at (a .own) (a .place) (headOf (a .header) (a .block .now)) (a .body .now) (a .tables .now) (a .reply .now) (s .result) (a .block .now) _ _ refl (size (tableLength * a .place)) (s .ensures) (c .enum-told .given .1)
+    let s = stepped (c .before .before) in
+    let a = begun s .args in
+    stepped-at (a .own) (a .place) _ _ _ _ _ _ _ _ refl (size (tableLength * a .place)) (s .step .ensures) (c .enum-told .given .1)
 
 same-length-7 : tie.Need-same-length-7
 same-length-7 c = search needs
@@ -96,9 +102,9 @@ same-length-8 c = search needs
 returns-4 : tie.Need-returns-4
 unfolding tableLength
 returns-4 c =
-    let a = c .before .before .before .before .before .before .before .before .before .before .before .before .before .before .args in
-    let s = c .before .before .before .before .before .before .before .step in
-    stepped-at (a .own) (a .place) (headOf (a .header) (a .block .now)) (a .body .now) (a .tables .now) (a .reply .now) (s .result) (a .block .now) _ _ refl (size (tableLength * a .place)) (s .ensures) (c .before .r .given .1)
+    let s = stepped (c .before .before .before) in
+    let a = begun s .args in
+    stepped-at (a .own) (a .place) _ _ _ _ _ _ _ _ refl (size (tableLength * a .place)) (s .step .ensures) (c .before .r .given .1)
 
 pub step-at-spec : {M : Type 1} → statement M
 step-at-spec =

@@ -25,30 +25,73 @@ Inv-loop block body before addresses tables₀ reply₀ out₀ at places header�
 abbrev μ-loop : tie.MeasureT-loop
 μ-loop block body before addresses tables₀ reply₀ out₀ at places header₀ told₀ place₀ tables reply out header told place = mostTransmissions - told
 
+abbrev Started : Type 0
+Started = tie.Start Inv-loop μ-loop
+
+abbrev Lined : Type 0
+Lined = tie.After-write-line Inv-loop μ-loop
+
+abbrev Hopped : Type 0
+Hopped = tie.After-hop Inv-loop μ-loop
+
+-- where `write_leg` starts, seen from before the loop
+abbrev begun : tie.After-places-of Inv-loop μ-loop → Started
+begun b = b .before .before .before .before .before .before .before
+
+-- a turn of the loop, seen from its line, and where `write_leg` starts
+abbrev turn : Lined → tie.At-loop Inv-loop μ-loop
+turn w = w .before .before
+
+abbrev start : Lined → Started
+start w = begun (turn w .before)
+
+-- the line of a turn, seen from its hop, and the last line, seen from the end at the bound
+abbrev line : Hopped → Lined
+line s = s .before .before .before .before .before .before .before
+
+abbrev last-line : tie.After-slice-known5 Inv-loop μ-loop → Lined
+last-line b = b .before .before .before .before .before .before .before
+
+-- a hop, seen from where its answer is looked at, and the end of the journey, seen from behind its last line
+abbrev hopped : tie.After-slice-known7 Inv-loop μ-loop → Hopped
+hopped b = b .before .before .before .before
+
+abbrev ended : tie.After-slice-known8 Inv-loop μ-loop → tie.After-e Inv-loop μ-loop
+ended b = b .before .before .before .before .before
+
+-- a line leaves the output as long as it was
+out-long : (w : Lined) → length (w .write-line .last .1 .1 .1 .0) ≡ length (start w .args .out .now)
+out-long w = w .write-line .kept .1 .1 .1 .0 ∙ turn w .loop .inv .4
+
+-- a hop leaves the tables and the reply as long as they were
+tables-long : (s : Hopped) → length (s .hop .last .1 .1 .1 .1 .0) ≡ length (start (line s) .args .tables .now)
+tables-long s = s .hop .kept .1 .1 .1 .1 .0 ∙ turn (line s) .loop .inv .2
+
+reply-long : (s : Hopped) → length (s .hop .last .1 .1 .1 .1 .1 .0) ≡ length (start (line s) .args .reply .now)
+reply-long s = s .hop .kept .1 .1 .1 .1 .1 .0 ∙ turn (line s) .loop .inv .3
+
 -- a hop finds room for a reply
-enough : (c : tie.After-hop Inv-loop μ-loop) → maxReply ≤ length (c .before .before .before .before .before .before .before .before .before .loop .reply)
-enough c =
-    let turn = c .before .before .before .before .before .before .before .before .before in
-    omega (arith, turn .loop .inv .3, turn .before .before .before .before .before .before .before .before .pre .1 .1 .0)
+enough : (s : Hopped) → maxReply ≤ length (turn (line s) .loop .reply)
+enough s = omega (arith, turn (line s) .loop .inv .3, start (line s) .pre .1 .1 .0)
 
 -- what the hop means
-means : (c : tie.After-hop Inv-loop μ-loop) {x : HopAnswer} → c .hop .result ≡ x →
-    (let turn = c .before .before .before .before .before .before .before .before .before in let v = turn .loop in let a = turn .before .before .before .before .before .before .before .before .args in let r = c .hop .last .1 .1 .1 .1 in
+means : (s : Hopped) {x : HopAnswer} → s .hop .result ≡ x →
+    (let v = turn (line s) .loop in let a = start (line s) .args in let r = s .hop .last .1 .1 .1 .1 in
     Means (a .addresses .now) (v .tables) (headOf (v .header) (a .block .now)) (a .body .now) (hopOf x (a .block .now) (r .0) (r .1 .0)))
-means c e =
-    let turn = c .before .before .before .before .before .before .before .before .before in
-    let v = turn .loop in
-    let a = turn .before .before .before .before .before .before .before .before .args in
-    let r = c .hop .last .1 .1 .1 .1 in
+means s e =
+    let t = turn (line s) in
+    let v = t .loop in
+    let a = start (line s) .args in
+    let r = s .hop .last .1 .1 .1 .1 in
     let w = v .inv .0 .way in
-    means-as (a .addresses .now) (v .tables) (w .set) (headOf (v .header) (a .block .now)) (a .body .now) (w .order) (turn .before .places-of .result) (turn .before .places-of .ensures)
-    (v .reply) (enough c) (c .hop .result) (a .block .now) (r .0) (r .1 .0) (c .hop .ensures) e
+    means-as (a .addresses .now) (v .tables) (w .set) (headOf (v .header) (a .block .now)) (a .body .now) (w .order) (t .before .places-of .result) (t .before .places-of .ensures)
+    (v .reply) (enough s) (s .hop .result) (a .block .now) (r .0) (r .1 .0) (s .hop .ensures) e
 
 places-of-requires : tie.Need-places-of-requires Inv-loop μ-loop
 places-of-requires c κs = search needs
 
 loop-holds : tie.Need-loop-holds Inv-loop μ-loop
-loop-holds c = let p = c .before .before .before .before .before .before .before .pre in (record { way = p .0; room = p .1 .0; whole = refl }, refl, refl, refl, refl)
+loop-holds c = let p = begun c .pre in (record { way = p .0; room = p .1 .0; whole = refl }, refl, refl, refl, refl)
 
 add-told : tie.Need-add-told Inv-loop μ-loop
 add-told c = search needs
@@ -63,19 +106,19 @@ write-closing-requires : tie.Need-write-closing-requires Inv-loop μ-loop
 write-closing-requires c κs = search needs
 
 same-length : tie.Need-same-length Inv-loop μ-loop
-same-length c = c .before .before .before .before .before .before .before .before .before .loop .inv .2
+same-length c = turn (last-line c) .loop .inv .2
 
 same-length-2 : tie.Need-same-length-2 Inv-loop μ-loop
-same-length-2 c = c .before .before .before .before .before .before .before .before .before .loop .inv .3
+same-length-2 c = turn (last-line c) .loop .inv .3
 
 same-length-3 : tie.Need-same-length-3 Inv-loop μ-loop
-same-length-3 c = c .before .before .write-closing .kept .1 .1 .0 ∙ c .before .before .before .before .before .before .before .write-line .kept .1 .1 .1 .0 ∙ c .before .before .before .before .before .before .before .before .before .loop .inv .4
+same-length-3 c = c .before .before .write-closing .kept .1 .1 .0 ∙ out-long (last-line c)
 
 returns : tie.Need-returns Inv-loop μ-loop
 returns c =
-    let w = c .before .before .before .before .before .before .before .write-line .ensures in
+    let w = last-line c .write-line .ensures in
     let x = c .before .before .write-closing .ensures in
-    told-over (c .before .before .before .before .before .before .before .before .before .loop .inv .0) (w .0) (w .1) (omega arith) (x .0) (x .1)
+    told-over (turn (last-line c) .loop .inv .0) (w .0) (w .1) (omega arith) (x .0) (x .1)
 
 hop-requires : tie.Need-hop-requires Inv-loop μ-loop
 hop-requires c κs = search needs
@@ -88,77 +131,60 @@ loop-less c = search needs
 
 loop-again : tie.Need-loop-again Inv-loop μ-loop
 loop-again c =
-    let at-hop = c .before .before .before .before .before .before .before in
-    let v = at-hop .before .before .before .before .before .before .before .before .before .loop in
-    let w = at-hop .before .before .before .before .before .before .before .write-line in
-    let r = at-hop .hop .kept .1 .1 .1 .1 in
-    let p = means at-hop (c .before .h .given .1) in
-    (told-on (v .inv .0) (w .ensures .0) (w .ensures .1) (omega arith) (p .goes), p .function ∙ v .inv .1, r .0 ∙ v .inv .2, r .1 .0 ∙ v .inv .3, w .kept .1 .1 .1 .0 ∙ v .inv .4)
+    let s = hopped (c .before .before .before) in
+    let v = turn (line s) .loop in
+    let w = line s .write-line .ensures in
+    let p = means s (c .before .h .given .1) in
+    (told-on (v .inv .0) (w .0) (w .1) (omega arith) (p .goes), p .function ∙ v .inv .1, tables-long s, reply-long s, out-long (line s))
 
 enum-known-h-2 : tie.Need-enum-known-h-2 Inv-loop μ-loop
 enum-known-h-2 c = search needs
 
 same-length-4 : tie.Need-same-length-4 Inv-loop μ-loop
-same-length-4 c =
-    let at-hop = c .before .before .before .before .before .before .before in
-    at-hop .hop .kept .1 .1 .1 .1 .0 ∙ at-hop .before .before .before .before .before .before .before .before .before .loop .inv .2
+same-length-4 c = tables-long (hopped (c .before .before .before))
 
 same-length-5 : tie.Need-same-length-5 Inv-loop μ-loop
-same-length-5 c =
-    let at-hop = c .before .before .before .before .before .before .before in
-    at-hop .hop .kept .1 .1 .1 .1 .1 .0 ∙ at-hop .before .before .before .before .before .before .before .before .before .loop .inv .3
+same-length-5 c = reply-long (hopped (c .before .before .before))
 
 same-length-6 : tie.Need-same-length-6 Inv-loop μ-loop
-same-length-6 c =
-    let at-write-line = c .before .before .before .before .before .before .before .before .before .before .before .before .before .before in
-    at-write-line .write-line .kept .1 .1 .1 .0 ∙ at-write-line .before .before .loop .inv .4
+same-length-6 c = out-long (line (hopped (c .before .before .before)))
 
 returns-2 : tie.Need-returns-2 Inv-loop μ-loop
 returns-2 c =
-    let at-hop = c .before .before .before .before .before .before .before in
-    let turn = at-hop .before .before .before .before .before .before .before .before .before in
-    let v = turn .loop in
-    let w = at-hop .before .before .before .before .before .before .before .write-line .ensures in
-    let a = turn .before .before .before .before .before .before .before .before .args in
-    let h = at-hop .hop in
-    let r = h .last .1 .1 .1 .1 in
-    let p = means at-hop (c .before .h2 .given .1) in
-    let most = answered-count (at-hop .before .before .before .before .before .before .before .before .before .before .places-of .result) (headOf (v .header) (a .block .now)) (a .body .now) (v .tables) (v .reply) (h .result) (a .block .now) (r .0) (r .1 .0) (h .ensures) (c .before .h2 .given .1) in
-    (omega (arith, most, h .kept .1 .1 .1 .1 .1 .0, enough at-hop), sym (v .inv .1) ∙ p .request, p .back, told-on (v .inv .0) (w .0) (w .1) (omega arith) (p .goes))
+    let s = hopped (c .before .before .before) in
+    let t = turn (line s) in
+    let v = t .loop in
+    let w = line s .write-line .ensures in
+    let a = start (line s) .args in
+    let r = s .hop .last .1 .1 .1 .1 in
+    let told = c .before .h2 .given .1 in
+    let p = means s told in
+    let most = answered-count (t .before .places-of .result) (headOf (v .header) (a .block .now)) (a .body .now) (v .tables) (v .reply) (s .hop .result) (a .block .now) (r .0) (r .1 .0) (s .hop .ensures) told in
+    (omega (arith, most, s .hop .kept .1 .1 .1 .1 .1 .0, enough s), sym (v .inv .1) ∙ p .request, p .back, told-on (v .inv .0) (w .0) (w .1) (omega arith) (p .goes))
 
 enum-known-e : tie.Need-enum-known-e Inv-loop μ-loop
 enum-known-e c = search needs
 
 write-closing-requires-2 : tie.Need-write-closing-requires-2 Inv-loop μ-loop
 write-closing-requires-2 c κs =
-    let at-hop = c .before .before .before .before .before .before .before .before in
-    let at-write-line = at-hop .before .before .before .before .before .before .before in
-    omega (arith, at-write-line .write-line .ensures .1, at-write-line .write-line .kept .1 .1 .1 .0, at-write-line .before .before .loop .inv .0 .room, at-write-line .before .before .loop .inv .4, at-write-line .before .before .before .before .before .before .before .before .before .before .pre .1 .1 .1)
+    let w = line (hopped (c .before .before .before .before)) in
+    omega (arith, w .write-line .ensures .1, out-long w, turn w .loop .inv .0 .room, start w .pre .1 .1 .1)
 
 same-length-7 : tie.Need-same-length-7 Inv-loop μ-loop
-same-length-7 c =
-    let at-hop = c .before .before .before .before .before .before .before .before .before .before .before in
-    at-hop .hop .kept .1 .1 .1 .1 .0 ∙ at-hop .before .before .before .before .before .before .before .before .before .loop .inv .2
+same-length-7 c = tables-long (hopped (ended c .before .before))
 
 same-length-8 : tie.Need-same-length-8 Inv-loop μ-loop
-same-length-8 c =
-    let at-hop = c .before .before .before .before .before .before .before .before .before .before .before in
-    at-hop .hop .kept .1 .1 .1 .1 .1 .0 ∙ at-hop .before .before .before .before .before .before .before .before .before .loop .inv .3
+same-length-8 c = reply-long (hopped (ended c .before .before))
 
 same-length-9 : tie.Need-same-length-9 Inv-loop μ-loop
-same-length-9 c =
-    let at-write-closing2 = c .before .before in
-    let at-hop = at-write-closing2 .before .before .before .before .before .before .before .before .before in
-    let at-write-line = at-hop .before .before .before .before .before .before .before in
-    at-write-closing2 .write-closing2 .kept .1 .1 .0 ∙ at-write-line .write-line .kept .1 .1 .1 .0 ∙ at-write-line .before .before .loop .inv .4
+same-length-9 c = c .before .before .write-closing2 .kept .1 .1 .0 ∙ out-long (line (hopped (ended c .before .before)))
 
 returns-3 : tie.Need-returns-3 Inv-loop μ-loop
 returns-3 c =
-    let at-e = c .before .before .before .before .before in
-    let at-write-line = at-e .before .before .before .before .before .before .before .before .before .before .before .before .before in
-    let w = at-write-line .write-line .ensures in
+    let s = hopped (ended c .before .before) in
+    let w = line s .write-line .ensures in
     let x = c .before .before .write-closing2 .ensures in
-    told-end (at-write-line .before .before .loop .inv .0) (w .0) (w .1) (omega arith) (means (at-e .before .before .before .before .before .before) (at-e .e .given .1)) (x .0) (x .1)
+    told-end (turn (line s) .loop .inv .0) (w .0) (w .1) (omega arith) (means s (ended c .e .given .1)) (x .0) (x .1)
 
 pub write-leg-spec : {M : Type 1} → statement M
 write-leg-spec =
