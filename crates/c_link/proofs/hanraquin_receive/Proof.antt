@@ -1,10 +1,24 @@
 -- `hanraquin_receive`: the tests of event and state, and then the event.
 -- Assumes nothing.
-use mathlib.Core.Path.{sym, _∙_}
+use mathlib.Core.Path.{_≡_, sym, _∙_}
+use mathlib.Core.Bool.{true}
+use Rattle.c_link.specs.Link.{isState}
 use Rattle.c_link.proofs.States.{no-event, not-three, bad-phase, bad-check, over-buffer, over-limit, is-state, at-state}
 use borrow.Author.Needs.{needs}
 use Rattle.c_link.proofs.hanraquin_receive.Statement.{statement}
 use Rattle.c_link.proofs.hanraquin_receive.Tie as tie
+
+-- behind the tests of the numbers, seen from the event
+abbrev tested : tie.After-receive-at-arg2 → tie.Else4
+tested s = s .before .before .before .before .before .before
+
+-- where `hanraquin_receive` starts, seen from there
+abbrev begun : tie.Else4 → tie.Start
+begun s = s .before .before .before .before .before .before .before .before
+
+-- the numbers that pass these tests are a state
+state : (s : tie.Else4) → isState (begun s .args .state .now) ≡ true
+state s = is-state _ (s .before .before .before .before .if2 .left) (s .before .before .if3 .left) (s .if4 .left)
 
 refused-requires : tie.Need-refused-requires
 refused-requires c κs = search needs
@@ -55,9 +69,7 @@ returns-6 : tie.Need-returns-6
 returns-6 c = rw (c .refused6 .ensures) (sym (over-limit _ _ _ (c .before .if6 .taken)))
 
 receive-at-requires : tie.Need-receive-at-requires
-receive-at-requires c κs =
-    let e = c .before .before .before .before .before .before in
-    is-state _ (e .before .before .before .before .if2 .left) (e .before .before .if3 .left) (e .if4 .left)
+receive-at-requires c κs = state (tested c)
 
 same-length : tie.Need-same-length
 same-length c = search needs
@@ -67,9 +79,9 @@ same-length-2 c = search needs
 
 returns-7 : tie.Need-returns-7
 returns-7 c =
-    let e = c .before .before .before .before .before .before .before .before .before .before .before in
-    let state = is-state _ (e .before .before .before .before .if2 .left) (e .before .before .if3 .left) (e .if4 .left) in
-    c .before .before .before .before .receive-at .ensures ∙ sym (at-state _ _ _ (e .before .before .before .before .before .if1 .left) state)
+    let r = c .before .before .before .before in
+    let t = tested (r .before) in
+    r .receive-at .ensures ∙ sym (at-state _ _ _ (t .before .before .before .before .before .if1 .left) (state t))
 
 pub hanraquin-receive-spec : {M : Type 1} → statement M
 hanraquin-receive-spec =

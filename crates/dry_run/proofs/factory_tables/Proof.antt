@@ -6,6 +6,16 @@ use Rattle.dry_run.proofs.Tables.{three-tables}
 use Rattle.dry_run.proofs.factory_tables.Statement.{statement}
 use Rattle.dry_run.proofs.factory_tables.Tie as tie
 
+-- the second copy seen from the third, the first from the second, and the table that is copied from the first
+abbrev second : tie.After-put-values3 → tie.After-put-values2
+second s = s .before .before .before .before
+
+abbrev first : tie.After-put-values2 → tie.After-put-values
+first s = s .before .before .before .before
+
+abbrev made : tie.After-put-values → tie.After-factory
+made s = s .before .before .before
+
 factory-requires : tie.Need-factory-requires
 factory-requires c κs = search needs
 
@@ -42,11 +52,11 @@ put-values-requires-3 c κs = search needs
 returns : tie.Need-returns
 unfolding tableLength
 returns c =
-    let third = c .before .put-values3 in
-    let second = c .before .before .before .before .before .put-values2 in
-    let first = c .before .before .before .before .before .before .before .before .before .put-values in
-    let made = c .before .before .before .before .before .before .before .before .before .before .before .before .factory in
-    three-tables (made .ensures) (first .ensures) (second .ensures) (third .ensures)
+    let three = c .before in
+    let two = second three in
+    let one = first two in
+    three-tables (made one .factory .ensures)
+    (one .put-values .ensures) (two .put-values2 .ensures) (three .put-values3 .ensures)
 
 pub factory-tables-spec : {M : Type 1} → statement M
 factory-tables-spec =

@@ -8,6 +8,10 @@ use borrow.Author.Needs.{needs}
 use Rattle.link_frame.proofs.frame.Statement.{statement}
 use Rattle.link_frame.proofs.frame.Tie as tie
 
+-- where `frame` starts, seen from where the data is short enough
+abbrev begun : tie.Else1 → tie.Start
+begun s = s .before .before .before
+
 returns : tie.Need-returns
 returns c =
     let a = c .before .before .before .args in
@@ -20,14 +24,14 @@ add-if2 : tie.Need-add-if2
 add-if2 c = search needs
 
 write-frame-requires : tie.Need-write-frame-requires
-write-frame-requires c κs = omega (arith, doubled-bound (c .before .before .before .before .before .args .src .now))
+write-frame-requires c κs = omega (arith, doubled-bound (begun (c .before .before) .args .src .now))
 
 same-length : tie.Need-same-length
 same-length c = search needs
 
 returns-2 : tie.Need-returns-2
 returns-2 c =
-    let a = c .before .before .before .before .before .before .before .before .args in
+    let a = begun (c .before .before .before .before .before) .args in
     c .before .before .write-frame .ensures
     ∙ sym (framing-room (a .src .now) (a .out .now) (omega arith) (omega (arith, doubled-bound (a .src .now))))
 
@@ -39,7 +43,7 @@ add-if3 c = search needs
 
 returns-3 : tie.Need-returns-3
 returns-3 c =
-    let a = c .before .before .before .before .before .before .args in
+    let a = begun (c .before .before .before) .args in
     sym (framing-short (a .src .now) (a .out .now) (omega arith) (omega arith))
 
 write-frame-requires-2 : tie.Need-write-frame-requires-2
@@ -50,7 +54,7 @@ same-length-2 c = search needs
 
 returns-4 : tie.Need-returns-4
 returns-4 c =
-    let a = c .before .before .before .before .before .before .before .before .before .before .args in
+    let a = begun (c .before .before .before .before .before .before .before) .args in
     c .before .before .write-frame2 .ensures ∙ sym (framing-room (a .src .now) (a .out .now) (omega arith) (omega arith))
 
 pub frame-spec : {M : Type 1} → statement M

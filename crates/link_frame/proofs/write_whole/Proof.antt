@@ -12,6 +12,10 @@ use borrow.Author.Needs.{needs}
 use Rattle.link_frame.proofs.write_whole.Statement.{statement}
 use Rattle.link_frame.proofs.write_whole.Tie as tie
 
+-- where `write_whole` starts, seen from where the part is copied
+abbrev begun : tie.After-put → tie.Start
+begun s = s .before .before .before .before
+
 add-end : tie.Need-add-end
 add-end c = search needs
 
@@ -41,9 +45,10 @@ same-length c = search needs
 
 returns : tie.Need-returns
 returns c =
-    let start = c .before .before .before .before .before .before .before .before .before .before in
+    let copy = c .before .before .before .before .before .before in
+    let start = begun copy in
     let a = start .args in
-    let copied = c .before .before .before .before .before .before .put .ensures ∙ sets-all (a .part .now) (replicate 16 0) (start .pre .0) in
+    let copied = copy .put .ensures ∙ sets-all (a .part .now) (replicate 16 0) (start .pre .0) in
     part-written (a .from) (a .part .now) (a .out .now) (omega arith) (omega arith)
     (c .before .before .put2 .ensures ∙ ap (λ (l : List ℕ). sets (take (a .from + 16 - a .from) (drop (a .from) (a .out .now))) 0 l) copied)
 

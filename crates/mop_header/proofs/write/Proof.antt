@@ -8,20 +8,32 @@ use borrow.Author.Needs.{needs}
 use Rattle.mop_header.proofs.write.Statement.{statement}
 use Rattle.mop_header.proofs.write.Tie as tie
 
+-- where `write` starts, seen from where the header is measured
+abbrev begun : tie.After-length → tie.Start
+begun s = s .before .before .before .before
+
+-- where the header is measured, seen from where it is written
+abbrev measured : tie.After-write-header → tie.After-length
+measured s = s .before .before .before .before
+
 length-requires : tie.Need-length-requires
 length-requires c κs = search needs
 
 returns : tie.Need-returns
-returns c = sym (telegram-short _ _ _ (omega (arith, c .before .length .ensures (c .before .before .before .before .before .args .block .now))))
+returns c = sym (telegram-short _ _ _ (omega (arith, c .before .length .ensures (begun (c .before) .args .block .now))))
 
 sub-if2 : tie.Need-sub-if2
 sub-if2 c = search needs
 
 returns-2 : tie.Need-returns-2
-returns-2 c = sym (telegram-short _ _ _ (omega (arith, c .before .before .length .ensures (c .before .before .before .before .before .before .args .block .now))))
+returns-2 c =
+    let m = c .before .before in
+    sym (telegram-short _ _ _ (omega (arith, m .length .ensures (begun m .args .block .now))))
 
 write-header-requires : tie.Need-write-header-requires
-write-header-requires c κs = (omega (arith, c .before .before .before .length .ensures (c .before .before .before .before .before .before .before .args .block .now)))
+write-header-requires c κs =
+    let m = c .before .before .before in
+    omega (arith, m .length .ensures (begun m .args .block .now))
 
 put-requires : tie.Need-put-requires
 put-requires c κs = search needs
@@ -34,9 +46,12 @@ same-length c = search needs
 
 returns-3 : tie.Need-returns-3
 returns-3 c =
-    let a = c .before .before .before .before .before .before .before .before .before .before .before .before .before .before .args in
-    let size = c .before .before .before .before .before .before .before .before .before .before .length .ensures (a .block .now) in
-    telegram-written (headOf (a .header) (a .block .now)) (a .body .now) (a .out .now) size (omega (arith, size)) (c .before .before .before .before .before .before .write-header .ensures) (c .before .before .put .ensures)
+    let headed = c .before .before .before .before .before .before in
+    let m = measured headed in
+    let a = begun m .args in
+    let size = m .length .ensures (a .block .now) in
+    telegram-written (headOf (a .header) (a .block .now)) (a .body .now) (a .out .now) size (omega (arith, size))
+    (headed .write-header .ensures) (c .before .before .put .ensures)
 
 pub write-spec : {M : Type 1} → statement M
 write-spec =

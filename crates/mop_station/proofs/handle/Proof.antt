@@ -12,6 +12,10 @@ use borrow.Author.Needs.{needs}
 use Rattle.mop_station.proofs.handle.Statement.{statement}
 use Rattle.mop_station.proofs.handle.Tie as tie
 
+-- where `handle` starts, seen from where the header is read
+abbrev begun : tie.After-read → tie.Start
+begun s = s .before .before .before .before .before .before .before
+
 is-station-requires : tie.Need-is-station-requires
 is-station-requires c κs = search needs
 
@@ -32,8 +36,11 @@ enum-known-header c = search needs
 
 hear-requires : tie.Need-hear-requires
 hear-requires c κs =
-    let a = c .before .before .before .before .before .before .before .before .before .before .before .before .args in
-    sound-room Station (a .telegram .now) _ (sym (c .before .before .before .before .before .read .ensures) ∙ ap (λ (r : HeaderRead). readingOf r (a .telegram .now)) (c .before .before .before .header .given .1))
+    let header = c .before .before .before in
+    let r = header .before .before in
+    let a = begun r .args in
+    sound-room Station (a .telegram .now) _
+    (sym (r .read .ensures) ∙ ap (λ (x : HeaderRead). readingOf x (a .telegram .now)) (header .header .given .1))
 
 same-length-2 : tie.Need-same-length-2
 same-length-2 c = search needs
@@ -41,9 +48,11 @@ same-length-2 c = search needs
 returns-2 : tie.Need-returns-2
 unfolding hearing
 returns-2 c =
-    let a = c .before .before .before .before .before .before .before .before .before .before .args in
-    let set = sym (c .before .before .before .before .before .is-station .ensures) ∙ not-false _ (c .before .before .before .before .if1 .left) in
-    sym (set-up _ _ _ _ set (sym (ap (λ (r : HeaderRead). readingOf r (a .telegram .now)) (c .before .r .given .1)) ∙ c .before .before .before .read .ensures))
+    let r = c .before .before .before in
+    let a = begun r .args in
+    let set = sym (r .before .before .is-station .ensures) ∙ not-false _ (r .before .if1 .left) in
+    let read = sym (ap (λ (x : HeaderRead). readingOf x (a .telegram .now)) (c .before .r .given .1)) ∙ r .read .ensures in
+    sym (set-up _ _ _ _ set read)
 
 same-length-3 : tie.Need-same-length-3
 same-length-3 c = search needs
@@ -53,10 +62,12 @@ same-length-4 c = search needs
 
 returns-3 : tie.Need-returns-3
 returns-3 c =
-    let at-header = c .before .before .before .before .before .before .before .before in
-    let a = at-header .before .before .before .before .before .before .before .before .before .args in
-    let set = sym (at-header .before .before .before .before .is-station .ensures) ∙ not-false _ (at-header .before .before .before .if1 .left) in
-    c .before .before .before .before .hear .ensures ∙ sym (set-up _ _ _ _ set (sym (ap (λ (r : HeaderRead). readingOf r (a .telegram .now)) (at-header .header .given .1)) ∙ at-header .before .before .read .ensures))
+    let header = c .before .before .before .before .before .before .before .before in
+    let r = header .before .before in
+    let a = begun r .args in
+    let set = sym (r .before .before .is-station .ensures) ∙ not-false _ (r .before .if1 .left) in
+    let read = sym (ap (λ (x : HeaderRead). readingOf x (a .telegram .now)) (header .header .given .1)) ∙ r .read .ensures in
+    c .before .before .before .before .hear .ensures ∙ sym (set-up _ _ _ _ set read)
 
 pub handle-spec : {M : Type 1} → statement M
 handle-spec =

@@ -8,6 +8,10 @@ use borrow.Author.Needs.{needs}
 use Rattle.mop_step.proofs.judge_body.Statement.{statement}
 use Rattle.mop_step.proofs.judge_body.Tie as tie
 
+-- where `judge_body` starts, seen from where the read start is known
+abbrev begun : tie.After-word-of → tie.Start
+begun s = s .before .before .before .before .before .before .before
+
 returns : tie.Need-returns
 returns c = sym (short-body _ (c .if1 .taken))
 
@@ -58,7 +62,7 @@ judge-runs-requires c κs = search needs
 
 returns-3 : tie.Need-returns-3
 returns-3 c =
-    let body = c .before .before .before .before .before .before .before .before .before .before .before .before .before .args .body .now in
+    let body = begun (c .before .before .before .before .before .before) .args .body .now in
     (rw (c .before .before .before .before .before .before .word-of .ensures, c .before .before .before .word-of2 .ensures, take-rest 6 body) at (c .judge-runs .ensures))
     ∙ sym (right-length body (omega arith))
 

@@ -11,6 +11,14 @@ use borrow.Author.Needs.{needs}
 use Rattle.mop_step.proofs.put_reply.Statement.{statement}
 use Rattle.mop_step.proofs.put_reply.Tie as tie
 
+-- where `put_reply` starts, seen from where the place is known
+abbrev begun : tie.After-place-of → tie.Start
+begun s = s .before .before .before .before .before .before .before .before
+
+-- where the place is known, seen from behind the first three bytes
+abbrev placed : tie.After-slice-known2 → tie.After-place-of
+placed s = s .before .before .before .before .before
+
 shared-slice-read-word-of : tie.Need-shared-slice-read-word-of
 shared-slice-read-word-of c = search needs
 
@@ -51,8 +59,9 @@ put-requires c κs = search needs
 
 mul-put-words : tie.Need-mul-put-words
 mul-put-words c =
-    let place = c .before .before .before .before .before .place-of .ensures ∙ ap placeOf (c .before .before .before .before .before .before .before .word-of .ensures) in
-    let inside : c .before .before .before .before .before .place-of .result ≤ length (c .before .before .before .before .before .before .before .before .before .before .before .before .before .args .registers .now) = omega arith in
+    let p = placed c in
+    let place = p .place-of .ensures ∙ ap placeOf (p .before .before .word-of .ensures) in
+    let inside : p .place-of .result ≤ length (begun p .args .registers .now) = omega arith in
     search needs
 
 sub-put-words : tie.Need-sub-put-words
@@ -63,7 +72,8 @@ part-put-words-start c = search needs
 
 part-put-words-end : tie.Need-part-put-words-end
 part-put-words-end c =
-    let place = c .before .before .before .before .before .place-of .ensures ∙ ap placeOf (c .before .before .before .before .before .before .before .word-of .ensures) in
+    let p = placed c in
+    let place = p .place-of .ensures ∙ ap placeOf (p .before .before .word-of .ensures) in
     omega arith
 
 put-words-requires : tie.Need-put-words-requires
@@ -74,15 +84,17 @@ same-length c = search needs
 
 returns : tie.Need-returns
 returns c =
-    let p = c .before .before .before .before .before .before .before .before .before .before in
-    let a = p .before .before .before .before .before .before .before .before .args in
+    let three = c .before .before .before .before .before in
+    let p = placed three in
+    let a = begun p .args in
     let at = p .place-of .result in
     let n = getD (a .body .now) 2 0 in
     let place = p .place-of .ensures ∙ ap placeOf (p .before .before .word-of .ensures) in
     let end : (at + n) - at ≡ n = omega arith in
-    let long : length (take n (drop at (a .registers .now))) ≡ n = length-take-le n (drop at (a .registers .now)) (rw length-drop (omega arith)) in
+    let values = take n (drop at (a .registers .now)) in
+    let long : length values ≡ n = length-take-le n (drop at (a .registers .now)) (rw length-drop (omega arith)) in
     rw (c .before .before .put-words .ensures, end, ← place)
-    (reply-stored (a .body .now) (take n (drop at (a .registers .now))) (a .reply .now) (omega arith) (omega arith) (c .before .before .before .before .before .before .before .put .ensures))
+    (reply-stored (a .body .now) values (a .reply .now) (omega arith) (omega arith) (three .before .before .put .ensures))
 
 pub put-reply-spec : {M : Type 1} → statement M
 put-reply-spec =

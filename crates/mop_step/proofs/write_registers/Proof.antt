@@ -2,10 +2,18 @@
 -- Assumes nothing.
 use Rattle.mop_registers.specs.Rows.{placeOf}
 use Rattle.base.proofs.Places.{take-rest}
-use mathlib.Core.Path.{_∙_, ap}
+use lib.Seq.{sets}
+use Rattle.base.specs.Words.{wordsOf}
+use Prim.Native.Nat.{ℕ}
+use mathlib.Core.List.{List}
+use mathlib.Core.Path.{_∙_, ap, ap₂}
 use borrow.Author.Needs.{needs}
 use Rattle.mop_step.proofs.write_registers.Statement.{statement}
 use Rattle.mop_step.proofs.write_registers.Tie as tie
+
+-- where `write_registers` starts, seen from where the place is known
+abbrev begun : tie.After-place-of → tie.Start
+begun s = s .before .before .before .before .before .before
 
 shared-slice-read-word-of : tie.Need-shared-slice-read-word-of
 shared-slice-read-word-of c = search needs
@@ -39,8 +47,11 @@ same-length c = search needs
 
 returns : tie.Need-returns
 returns c =
-    let place = c .before .before .before .before .before .place-of .ensures ∙ ap placeOf (c .before .before .before .before .before .before .word-of .ensures) in
-    rw (c .before .before .store-words .ensures, take-rest 6 (c .before .before .before .before .before .before .before .before .before .before .before .args .body .now), place)
+    let p = c .before .before .before .before .before in
+    let a = begun p .args in
+    let place = p .place-of .ensures ∙ ap placeOf (p .before .word-of .ensures) in
+    c .before .before .store-words .ensures
+    ∙ ap₂ (λ (at : ℕ) (l : List ℕ). sets (a .registers .now) at (wordsOf l)) place (take-rest 6 (a .body .now))
 
 pub write-registers-spec : {M : Type 1} → statement M
 write-registers-spec =

@@ -14,9 +14,13 @@ use borrow.Author.Needs.{needs}
 use Rattle.net_dry_run.proofs.run.Statement.{statement}
 use Rattle.net_dry_run.proofs.run.Tie as tie
 
+-- where the stations' places are known, seen from the end of the first leg
+abbrev placed : tie.After-walk → tie.After-places-of
+placed s = s .before .before .before .before
+
 -- where `run` starts, seen from the end of the first leg
 abbrev begun : tie.After-walk → tie.Start
-begun s = s .before .before .before .before .before .before .before .before .before .before
+begun s = placed s .before .before .before .before .before .before
 
 -- the end of the first leg, seen from each case of its halt
 abbrev walked : tie.After-halt → tie.After-walk
@@ -28,7 +32,7 @@ walked-2 s = s .before .before .before .before .before .before
 -- the first leg, and what it says of the journey
 led : (s : tie.After-walk) {x : Halt} → s .walk .result .halt ≡ x →
     (let a = begun s .args in let left = s .walk .last .1 .1 .1 .1 .1 .1 in
-    Leads (a .addresses .now) (s .before .before .before .before .places-of .result) (a .tables .now) 0 (headOf (a .first) (a .block .now)) (a .body .now)
+    Leads (a .addresses .now) (placed s .places-of .result) (a .tables .now) 0 (headOf (a .first) (a .block .now)) (a .body .now)
     (left .0) (left .1 .0) (s .walk .result .gone) (headOf (s .walk .result .header) (a .block .now)) x)
 led s e = leads-as _ _ _ _ _ _ _ _ _ _ e (s .walk .ensures)
 

@@ -9,6 +9,10 @@ use borrow.Author.Needs.{needs}
 use Rattle.net_hop.proofs.hop.Statement.{statement}
 use Rattle.net_hop.proofs.hop.Tie as tie
 
+-- where the number of the station is known, seen from the end of its step
+abbrev numbered : tie.After-slice-known4 → tie.After-number-at
+numbered s = s .before .before .before .before .before .before .before .before .before
+
 first-requires : tie.Need-first-requires
 first-requires c κs = search needs
 
@@ -29,9 +33,11 @@ mul-if3 c = search needs
 
 returns-3 : tie.Need-returns-3
 returns-3 c =
-    let number = c .before .before .number-at .result in
+    let n = c .before .before in
+    let number = n .number-at .result in
     let e : number ≡ suc (number - 1) = omega arith in
-    hop-beyond _ _ _ _ _ (c .before .before .before .before .first .ensures) (c .before .before .number-at .ensures) (c .before .before .before .if1 .left) (number - 1) e (rw (← e, table-length) (c .if3 .taken))
+    hop-beyond _ _ _ _ _ (n .before .before .first .ensures) (n .number-at .ensures) (n .before .if1 .left) (number - 1) e
+    (rw (← e, table-length) (c .if3 .taken))
 
 sub-step-at : tie.Need-sub-step-at
 sub-step-at c = search needs
@@ -50,9 +56,12 @@ same-length-2 c = search needs
 
 returns-4 : tie.Need-returns-4
 returns-4 c =
-    let number = c .before .before .before .before .before .before .before .before .before .number-at .result in
+    let n = numbered c in
+    let number = n .number-at .result in
     let e : number ≡ suc (number - 1) = omega arith in
-    c .before .before .before .before .step-at .ensures ∙ hop-there _ _ _ _ _ (c .before .before .before .before .before .before .before .before .before .before .before .first .ensures) (c .before .before .before .before .before .before .before .before .before .number-at .ensures) (c .before .before .before .before .before .before .before .before .before .before .if1 .left) (number - 1) e (rw (← e, table-length) (c .before .before .before .before .before .before .before .if3 .left))
+    c .before .before .before .before .step-at .ensures
+    ∙ hop-there _ _ _ _ _ (n .before .before .first .ensures) (n .number-at .ensures) (n .before .if1 .left) (number - 1) e
+    (rw (← e, table-length) (c .before .before .before .before .before .before .before .if3 .left))
 
 pub hop-spec : {M : Type 1} → statement M
 hop-spec =

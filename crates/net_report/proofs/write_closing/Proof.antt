@@ -14,6 +14,17 @@ use borrow.Author.Needs.{needs}
 use Rattle.net_report.proofs.write_closing.Statement.{statement}
 use Rattle.net_report.proofs.write_closing.Tie as tie
 
+-- where `write_closing` starts, seen from behind the word
+abbrev begun : tie.After-put → tie.Start
+begun s = s .before .before .before .before
+
+-- the word, seen from behind the count, and the count, seen from behind the ending
+abbrev worded : tie.After-write-decimal → tie.After-put
+worded s = s .before .before .before .before
+
+abbrev counted : tie.After-write-ending → tie.After-write-decimal
+counted s = s .before .before .before .before
+
 slice-aggregate-put : tie.Need-slice-aggregate-put
 slice-aggregate-put c = search needs
 
@@ -36,17 +47,27 @@ add-result : tie.Need-add-result
 add-result c = search needs
 
 same-length : tie.Need-same-length
-same-length c = simp length-set (c .before .before .write-ending .kept .1 .0 ∙ c .before .before .before .before .before .before .write-decimal .kept .1 .0 ∙ c .before .before .before .before .before .before .before .before .before .before .put .kept .1 .0)
+same-length c =
+    let e = c .before .before in
+    let n = counted e in
+    simp length-set (e .write-ending .kept .1 .0 ∙ n .write-decimal .kept .1 .0 ∙ worded n .put .kept .1 .0)
 
 returns : tie.Need-returns
 unfolding sentText
 returns c =
-    let a = c .before .before .before .before .before .before .before .before .before .before .before .before .before .before .args in
+    let e = c .before .before in
+    let n = counted e in
+    let w = worded n in
+    let a = begun w .args in
     let out = a .out .now in
     let ending = endingText (endingOf (a .end)) in
-    let sent = behind-copy (a .at) (0x73 ∷ 0x65 ∷ 0x6E ∷ 0x74 ∷ space ∷ []) (decimal (a .count)) out (c .before .before .before .before .before .before .before .before .before .before .put .ensures) (c .before .before .before .before .before .before .write-decimal .ensures .0) in
-    let both = behind (a .at) (sentText (a .count)) ending out sent (c .before .before .write-ending .ensures .0) in
-    (behind-store (a .at) (sentText (a .count) ++ ending) lineFeed out both ∙ ap (λ (text : List ℕ). writing (a .at) text out) (closing-parts (a .count) (endingOf (a .end))), omega arith)
+    let word : List ℕ = 0x73 ∷ 0x65 ∷ 0x6E ∷ 0x74 ∷ space ∷ [] in
+    let sent = behind-copy (a .at) word (decimal (a .count)) out (w .put .ensures) (n .write-decimal .ensures .0) in
+    let both = behind (a .at) (sentText (a .count)) ending out sent (e .write-ending .ensures .0) in (
+      behind-store (a .at) (sentText (a .count) ++ ending) lineFeed out both
+          ∙ ap (λ (text : List ℕ). writing (a .at) text out) (closing-parts (a .count) (endingOf (a .end))),
+      omega arith,
+    )
 
 pub write-closing-spec : {M : Type 1} → statement M
 write-closing-spec =

@@ -21,6 +21,14 @@ Inv-loop header block out₀ at n place₀ i₀ out place i =
 abbrev μ-loop : tie.MeasureT-loop
 μ-loop header block out₀ at n place₀ i₀ out place i = n - i
 
+-- where a round of the loop starts, seen from its end
+abbrev looped : tie.After-slice-known2 Inv-loop μ-loop → tie.At-loop Inv-loop μ-loop
+looped s = s .before .before .before .before .before .before
+
+-- where `write_entries` starts, seen from a round of the loop
+abbrev begun : tie.At-loop Inv-loop μ-loop → tie.Start Inv-loop μ-loop
+begun s = s .before .before .before .before
+
 entry-count-requires : tie.Need-entry-count-requires Inv-loop μ-loop
 entry-count-requires c κs = search needs
 
@@ -41,8 +49,8 @@ loop-less c = search needs
 
 loop-again : tie.Need-loop-again Inv-loop μ-loop
 loop-again c =
-    let v = c .before .before .before .before .before .before .loop in
-    let a = c .before .before .before .before .before .before .before .before .before .before .args in
+    let v = looped c .loop in
+    let a = begun (looped c) .args in
     let block = headOf (a .header) (a .block .now) .block in
     let b = c .before .before .before .before .entry in
     let p = c .before .before .write-byte in
@@ -60,7 +68,7 @@ same-length c = c .before .loop .inv .3
 returns : tie.Need-returns Inv-loop μ-loop
 returns c =
     let v = c .before .loop in
-    let a = c .before .before .before .before .before .args in
+    let a = begun (c .before) .args in
     let block = headOf (a .header) (a .block .now) .block in
     (writing-end (hex-end block (v .i) (omega arith)) (v .place) (v .out) (v .inv .4), omega arith)
 

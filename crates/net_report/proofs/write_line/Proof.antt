@@ -14,6 +14,14 @@ use borrow.Author.Needs.{needs}
 use Rattle.net_report.proofs.write_line.Statement.{statement}
 use Rattle.net_report.proofs.write_line.Tie as tie
 
+-- where `write_line` starts, seen from where the function byte is known
+abbrev begun : tie.After-function-byte → tie.Start
+begun s = s .before .before .before .before .before .before .before
+
+-- the number, seen from there
+abbrev numbered : tie.After-function-byte → tie.After-write-decimal
+numbered s = s .before .before .before
+
 write-decimal-requires : tie.Need-write-decimal-requires
 write-decimal-requires c κs = search needs
 
@@ -34,20 +42,24 @@ add-result c = search needs
 
 same-length : tie.Need-same-length
 same-length c =
-    simp length-set (c .before .before .write-entries .kept .1 .1 .0 ∙ c .before .before .before .before .before .before .write-byte .kept .1 .0 ∙ c .before .before .before .before .before .before .before .before .before .before .before .write-decimal .kept .1 .0)
+    let b = c .before .before .before .before .before .before in
+    let e = c .before .before in
+    let n = numbered (b .before .before) in
+    simp length-set (e .write-entries .kept .1 .1 .0 ∙ b .write-byte .kept .1 .0 ∙ n .write-decimal .kept .1 .0)
 
 returns : tie.Need-returns
 returns c =
-    let at-function-byte = c .before .before .before .before .before .before .before .before in
-    let a = at-function-byte .before .before .before .before .before .before .before .args in
+    let b = c .before .before .before .before .before .before in
+    let k = b .before .before in
+    let a = begun k .args in
     let out = a .out .now in
-    let f = at-function-byte .function-byte in
+    let f = k .function-byte in
     let h = headOf (a .header) (a .block .now) in
     let number = decimal (a .number) in
     let first = hexBytes (f .result ∷ []) in
     let rest = hexBytes (h .block) in
-    let begun = behind (a .at) number first out (at-function-byte .before .before .before .write-decimal .ensures .0) (c .before .before .before .before .before .before .write-byte .ensures .0) in
-    let all = behind (a .at) (number ++ first) rest out begun (c .before .before .write-entries .ensures .0) in (
+    let both = behind (a .at) number first out (numbered k .write-decimal .ensures .0) (b .write-byte .ensures .0) in
+    let all = behind (a .at) (number ++ first) rest out both (c .before .before .write-entries .ensures .0) in (
       behind-store (a .at) ((number ++ first) ++ rest) lineFeed out all
           ∙ ap (λ (text : List ℕ). writing (a .at) text out) (line-parts (a .number) h (f .result) (f .ensures)),
       omega arith,

@@ -9,6 +9,10 @@ use borrow.Author.Needs.{needs}
 use Rattle.net_report.proofs.write_refused.Statement.{statement}
 use Rattle.net_report.proofs.write_refused.Tie as tie
 
+-- where `write_refused` starts, seen from behind the word
+abbrev begun : tie.After-put → tie.Start
+begun s = s .before .before .before .before
+
 slice-aggregate-put : tie.Need-slice-aggregate-put
 slice-aggregate-put c = search needs
 
@@ -30,11 +34,13 @@ same-length c = search needs
 returns : tie.Need-returns
 unfolding refusedText
 returns c =
-    let a = c .before .before .before .before .before .before .before .before .before .before .before .args in
+    let w = c .before .before .before .before .before .before .before in
+    let a = begun w .args in
     let k = c .before .before .before .before .number in
     let d = c .before .before .write-decimal .ensures in
     let word : List ℕ = 0x72 ∷ 0x65 ∷ 0x66 ∷ 0x75 ∷ 0x73 ∷ 0x65 ∷ 0x64 ∷ space ∷ [] in
-    (rw (← k .ensures) (behind-copy (a .at) word (decimal (k .result)) (a .out .now) (c .before .before .before .before .before .before .before .put .ensures) (d .0)), omega (arith, d .1))
+    let text = behind-copy (a .at) word (decimal (k .result)) (a .out .now) (w .put .ensures) (d .0) in
+    (rw (← k .ensures) text, omega (arith, d .1))
 
 pub write-refused-spec : {M : Type 1} → statement M
 write-refused-spec =

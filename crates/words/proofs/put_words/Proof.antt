@@ -21,6 +21,14 @@ Inv-loop numbers out₀ at place₀ i₀ out place i =
 abbrev μ-loop : tie.MeasureT-loop
 μ-loop numbers out₀ at place₀ i₀ out place i = length numbers - i
 
+-- where a round of the loop starts, seen from where its two bytes are put as far as there is room
+abbrev looped : tie.After-slice-known2 Inv-loop μ-loop → tie.At-loop Inv-loop μ-loop
+looped s = s .before .before .before .before .before .before .before .before
+
+-- where `put_words` starts, seen from a round of the loop
+abbrev begun : tie.At-loop Inv-loop μ-loop → tie.Start Inv-loop μ-loop
+begun s = s .before .before .before .before
+
 returns : tie.Need-returns Inv-loop μ-loop
 returns c = sym (sets-beyond (c .before .before .before .args .out .now) (c .before .before .before .args .at) (bytesOf (c .before .before .before .args .numbers .now)) (omega arith))
 
@@ -52,12 +60,12 @@ put-requires : tie.Need-put-requires Inv-loop μ-loop
 put-requires c κs = search needs
 
 same-length : tie.Need-same-length Inv-loop μ-loop
-same-length c = c .before .before .put .kept .1 .0 ∙ c .before .before .before .before .before .before .before .before .loop .inv .1
+same-length c = c .before .before .put .kept .1 .0 ∙ looped c .loop .inv .1
 
 returns-2 : tie.Need-returns-2 Inv-loop μ-loop
 returns-2 c =
-    let v = c .before .before .before .before .before .before .before .before .loop in
-    let a = c .before .before .before .before .before .before .before .before .before .before .before .before .args in
+    let v = looped c .loop in
+    let a = begun (looped c) .args in
     c .before .before .put .ensures ∙ put-last (a .numbers .now) (v .out) (v .place) (v .i) (omega arith) (v .inv .3) (omega arith)
 
 slice-write-out : tie.Need-slice-write-out Inv-loop μ-loop
@@ -78,7 +86,7 @@ loop-less c = omega arith
 loop-again : tie.Need-loop-again Inv-loop μ-loop
 loop-again c =
     let v = c .before .before .before .loop in
-    let a = c .before .before .before .before .before .before .before .args in (
+    let a = begun (c .before .before .before) .args in (
       omega arith,
       simp length-set (v .inv .1),
       simp length-set (omega arith),
@@ -91,7 +99,7 @@ same-length-2 c = c .before .loop .inv .1
 returns-3 : tie.Need-returns-3 Inv-loop μ-loop
 unfolding bytesOf
 returns-3 c =
-    let a = c .before .before .before .before .before .args in
+    let a = begun (c .before) .args in
     let v = c .before .loop in
     let none = drop-of-length-le (a .numbers .now) (c .loop-test .left) in
     sym (ap (λ (l : List ℕ). sets (v .out) (v .place) (bytesOf l)) none) ∙ v .inv .3
