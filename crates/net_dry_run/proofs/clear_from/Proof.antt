@@ -33,7 +33,7 @@ loop-less c = search needs
 loop-again : tie.Need-loop-again Inv-loop μ-loop
 loop-again c =
     let v = c .before .loop in
-    (omega arith, rw (length-set (v .out) (v .i) 0) (v .inv .1), clear-step (v .out) (v .i) (omega arith) (v .inv .2))
+    (omega arith, rw (length-set (v .out) (v .i) _) (v .inv .1), clear-step (v .out) (v .i) (omega arith) (v .inv .2))
 
 same-length : tie.Need-same-length Inv-loop μ-loop
 same-length c = c .before .loop .inv .1
