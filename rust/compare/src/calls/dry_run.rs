@@ -162,14 +162,15 @@ impl Random {
     }
 }
 
-/// Fresh requests over every number of stations in every form; more of them in the standard form,
-/// over the longest way, and with bodies of all kinds.
+/// Requests over every number of stations in every form, fresh and one hop on, which make every
+/// number of transmissions; more of them in the standard form, over the longest way, and with bodies
+/// of all kinds.
 fn fresh(random: &mut Random, compare: &mut Compare<DryRun>) -> Result<(), Stop> {
     for ((extended, n), stations) in forms().flat_map(|form| (1..form.1).map(move |s| (form, s))) {
-        for _ in 0..if extended && stations < ROUTE { 2 } else { 60 } {
-            let block = random.block(stations, n, 0);
-            let telegram = telegram(REQUEST, extended, &block, &random.some_body());
-            compare(&random.run(telegram))?;
+        for i in 0..if extended && stations < ROUTE { 3 } else { 60 } {
+            let block = random.block(stations, n, i % 2);
+            let body = if i < 2 { random.good_body() } else { random.some_body() };
+            compare(&random.run(telegram(REQUEST, extended, &block, &body)))?;
         }
     }
     for body in faulty_bodies().iter().cycle().take(400) {
