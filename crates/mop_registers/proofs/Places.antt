@@ -9,7 +9,7 @@ use borrow.Author.Tests.{lt-ltb, le-ltb, ltb-true, ltb-false, eqb-true, ne-eqb, 
 use lib.Dec.{eqb, ltb}
 use lib.ListN.{length, getD, drop, drop-of-length-le}
 use Rattle.base.proofs.Choice.{pick-either}
-use Rattle.mop_registers.specs.Rows.{Row, rows, rowsBefore, writeOf, rangeOf, tableLength, placeOf, exists, mayWrite, takes, factory}
+use Rattle.mop_registers.specs.Rows.{Row, rows, rowsBefore, writeOf, rangeOf, tableLength, placeOf, exists, mayWrite, takes, factory, FactoryInRange}
 use Rattle.mop_registers.specs.Runs.{runExists}
 use Rattle.mop_registers.proofs.Tests.{every, every-at}
 
@@ -70,14 +70,14 @@ module _ (n : ℕ) (there : exists n ≡ true) where
   pub number-bound : n < 65536
   number-bound = ltb-true n 65536 (by-test (λ k. ltb k 65536) refl)
 
-  pub factory-taken : takes n (getD factory (placeOf n) 0) ≡ true
-  unfolding takes factory placeOf
-  factory-taken = by-test (λ k. takes k (getD factory (placeOf k) 0)) refl
-
   -- no run of nine exists
   pub no-nine : runExists n 9 ≡ false
   unfolding runExists exists placeOf tableLength
   no-nine = not-true (runExists n 9) (by-test (λ k. not (runExists k 9)) refl)
+
+pub factory-in-range : FactoryInRange
+unfolding takes factory placeOf
+factory-in-range n there = by-test n there (λ k. takes k (getD factory (placeOf k) 0)) refl
 
 pub place-apart : (a b : ℕ) → exists a ≡ true → exists b ≡ true → placeOf a ≡ placeOf b → a ≡ b
 place-apart a b there there′ e = sym (number-at a there) ∙ ap (λ (p : ℕ). getD (numbersOf rows) p 0) e ∙ number-at b there′

@@ -3,18 +3,19 @@
 use mathlib.Core.Path.{_≡_, refl, sym, _∙_, ap, subst}
 use mathlib.Core.Bool.{Bool, true, false, _&&_, true≢false}
 use mathlib.Core.List.{List, [], _∷_}
+use mathlib.Core.Logic.{_⊎_, inl, inr}
 use Prim.Native.Nat.{ℕ, zero, suc, _+_, _-_, _≤_, _<_}
 use native.Mathlib.Nat.{add-zero, add-suc, suc-add}
 use native.Mathlib.Numerals.{add-one}
 use native.Mathlib.Omega.{arith}
-use borrow.Author.Tests.{leb-true, leb-false}
-use lib.Dec.{leb}
+use borrow.Author.Tests.{leb-true, leb-false, eqb-true, eqb-false}
+use lib.Dec.{eqb, leb}
 use lib.ListN.{length, getD, take, drop, set, length-set}
 use lib.Seq.{sets, drop-cons, getD-set-same, getD-set-other}
-use Rattle.mop_registers.specs.Rows.{tableLength, placeOf, exists, mayWrite}
-use Rattle.mop_registers.specs.Runs.{runExists, LongestRun, runMayWrite, writes, reads}
+use Rattle.mop_registers.specs.Rows.{tableLength, placeOf, exists, mayWrite, takes}
+use Rattle.mop_registers.specs.Runs.{runExists, LongestRun, runMayWrite, runTakes, writes, reads, KeptOrInRange, WritesInRange}
 use Rattle.mop_registers.proofs.Tests.{both-true}
-use Rattle.mop_registers.proofs.Places.{place-most, place-bound, place-apart, place-next, number-bound, no-nine}
+use Rattle.mop_registers.proofs.Places.{place-most, place-bound, place-apart, place-next, number-bound, taken-exists, no-nine}
 
 -- a test of a run that is a test of each register
 pub record Stepwise (test : ℕ → Bool) (run : ℕ → ℕ → Bool) : Type 0 where
@@ -162,3 +163,38 @@ writes-holds t s (v ∷ vs) zero r long h =
 writes-holds t s (v ∷ vs) (suc i) r long h =
     rw (← later s i)
     (writes-holds (set t (placeOf s) v) (suc s) vs i (run-first s (length vs) r .1) (length-set t (placeOf s) v ∙ long) (omega arith))
+
+pub kept-in-range : (t u w : List ℕ) → KeptOrInRange t u → KeptOrInRange u w → KeptOrInRange t w
+kept-in-range t u w first second n there = go (first n there) (second n there)
+  where
+    go : {x y z : ℕ} → (y ≡ x) ⊎ (takes n y ≡ true) → (z ≡ y) ⊎ (takes n z ≡ true) → (z ≡ x) ⊎ (takes n z ≡ true)
+    go a (inr good) = inr good
+    go (inl e) (inl f) = inl (f ∙ e)
+    go (inr good) (inl f) = inr (rw f good)
+
+set-or-kept : (t : List ℕ) (p v : ℕ) → (getD (set t p v) p 0 ≡ getD t p 0) ⊎ (getD (set t p v) p 0 ≡ v)
+set-or-kept [] p v = inl refl
+set-or-kept (x ∷ t) zero v = inr refl
+set-or-kept (x ∷ t) (suc p) v = set-or-kept t p v
+
+-- one value in the range of its register
+set-in-range : (t : List ℕ) (s v : ℕ) → takes s v ≡ true → KeptOrInRange t (set t (placeOf s) v)
+set-in-range t s v good n there = go (eqb n s) refl
+  where
+    same : {x y : ℕ} → (x ≡ y) ⊎ (x ≡ v) → (x ≡ y) ⊎ (takes s x ≡ true)
+    same (inl e) = inl e
+    same (inr e) = inr (rw e good)
+
+    go : (b : Bool) → eqb n s ≡ b →
+        (getD (set t (placeOf s) v) (placeOf n) 0 ≡ getD t (placeOf n) 0) ⊎ (takes n (getD (set t (placeOf s) v) (placeOf n) 0) ≡ true)
+    go true e = rw (eqb-true n s e) (same (set-or-kept t (placeOf s) v))
+    go false e =
+        inl (getD-set-other t (placeOf s) (placeOf n) v 0 (λ k. eqb-false n s e (place-apart n s there (taken-exists s v good) k)))
+
+pub writes-in-range : WritesInRange
+unfolding writes runTakes
+writes-in-range t s [] good = λ n there. inl refl
+writes-in-range t s (v ∷ vs) good =
+    let both = both-true (takes s v) (runTakes (suc s) vs) good in
+    let one = set t (placeOf s) v in
+    kept-in-range t one (writes one (suc s) vs) (set-in-range t s v (both .0)) (writes-in-range one (suc s) vs (both .1))

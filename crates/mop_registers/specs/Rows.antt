@@ -1,10 +1,11 @@
 -- The registers of a station: the table of their rows, and what each row says of a register.
 -- Assumes nothing.
 use Prim.Native.Nat.{ℕ, suc}
+use mathlib.Core.Path.{_≡_}
 use mathlib.Core.Bool.{Bool, true, false, _&&_, _||_}
 use mathlib.Core.List.{List, [], _∷_, map}
 use lib.Dec.{eqb, ltb, leb}
-use lib.ListN.{length, drop}
+use lib.ListN.{length, getD, drop}
 use Rattle.base.specs.Choice.{pick}
 
 -- a register: its number, whether it takes writes, the values that it takes, and the value that it leaves the factory with
@@ -94,3 +95,7 @@ takes n v = rangeOf (drop (placeOf n) rows) v
 -- a table of values as it leaves the factory
 unfoldable pub factory : List ℕ
 factory = map (λ r. r .factory) rows
+
+-- each factory value is in the range of its register
+abbrev pub FactoryInRange : Type 0
+FactoryInRange = (n : ℕ) → exists n ≡ true → takes n (getD factory (placeOf n) 0) ≡ true

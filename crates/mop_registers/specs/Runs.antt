@@ -4,6 +4,7 @@ use Prim.Native.Nat.{ℕ, zero, suc, _≤_}
 use mathlib.Core.Path.{_≡_}
 use mathlib.Core.Bool.{Bool, true, _&&_}
 use mathlib.Core.List.{List, [], _∷_}
+use mathlib.Core.Logic.{_⊎_}
 use lib.ListN.{getD, set}
 use Rattle.mop_registers.specs.Rows.{placeOf, exists, mayWrite, takes}
 
@@ -39,3 +40,13 @@ writes table start (v ∷ vs) = writes (set table (placeOf start) v) (suc start)
 unfoldable pub reads : List ℕ → ℕ → ℕ → List ℕ
 reads table start zero = []
 reads table start (suc count) = getD table (placeOf start) 0 ∷ reads table (suc start) count
+
+-- each register has the value that it had before, or one in its range
+abbrev pub KeptOrInRange : List ℕ → List ℕ → Type 0
+KeptOrInRange before after =
+    (n : ℕ) → exists n ≡ true → (let v = getD after (placeOf n) 0 in (v ≡ getD before (placeOf n) 0) ⊎ (takes n v ≡ true))
+
+-- so it is when a run takes the values that are written
+abbrev pub WritesInRange : Type 0
+WritesInRange =
+    (table : List ℕ) (start : ℕ) (values : List ℕ) → runTakes start values ≡ true → KeptOrInRange table (writes table start values)

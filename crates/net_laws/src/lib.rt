@@ -1,0 +1,1 @@
+// What holds of every telegram at a station, and on its journey over a net. No code.
