@@ -9,9 +9,13 @@ use borrow.Author.Tests.{lt-ltb, le-ltb, ltb-true, ltb-false, eqb-true, ne-eqb, 
 use lib.Dec.{eqb, ltb}
 use lib.ListN.{length, getD, drop, drop-of-length-le}
 use Rattle.base.proofs.Choice.{pick-either}
-use Rattle.mop_registers.specs.Rows.{Row, rows, rowsBefore, writeOf, rangeOf, tableLength, placeOf, exists, mayWrite, takes, factory, FactoryInRange}
+use Rattle.base.proofs.Words.{high-word, low-word}
+use Rattle.mop_registers.specs.Rows.{TimeBytes, Row, rows, rowsBefore, writeOf, rangeOf, tableLength, placeOf, exists, mayWrite, takes, factory, FactoryInRange}
 use Rattle.mop_registers.specs.Runs.{runExists}
 use Rattle.mop_registers.proofs.Tests.{every, every-at}
+
+pub time-bytes : TimeBytes
+time-bytes hour minute byte = rw (high-word hour minute byte, low-word hour minute byte)
 
 pub table-length : tableLength ≡ length rows
 unfolding tableLength

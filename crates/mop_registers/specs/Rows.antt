@@ -1,12 +1,13 @@
 -- The registers of a station: the table of their rows, and what each row says of a register.
 -- Assumes nothing.
-use Prim.Native.Nat.{ℕ, suc}
+use Prim.Native.Nat.{ℕ, suc, _<_}
 use mathlib.Core.Path.{_≡_}
 use mathlib.Core.Bool.{Bool, true, false, _&&_, _||_}
 use mathlib.Core.List.{List, [], _∷_, map}
 use lib.Dec.{eqb, ltb, leb}
 use lib.ListN.{length, getD, drop}
 use Rattle.base.specs.Choice.{pick}
+use Rattle.base.specs.Words.{word, highByte, lowByte}
 
 -- a register: its number, whether it takes writes, the values that it takes, and the value that it leaves the factory with
 pub record Row : Type 0 where
@@ -25,17 +26,25 @@ yes = true
 abbrev pub no : Bool
 no = false
 
--- ranges: any value; from a least to a largest; these, or 65535
+-- ranges: any value; from a least to a largest; a time of day; one of these, or 65535
 abbrev pub any : ℕ → Bool
 any v = true
 
 abbrev pub fromTo : ℕ → ℕ → ℕ → Bool
 fromTo least most v = leb least v && leb v most
 
+-- a time of day: its hour, 0 to 23, is the high byte of the value, and its minute, 0 to 59, the low byte
+abbrev pub timeOfDay : ℕ → Bool
+timeOfDay v = leb (highByte v) 23 && leb (lowByte v) 59
+
+-- of two bytes the first is the hour, and the second the minute
+abbrev pub TimeBytes : Type 0
+TimeBytes = (hour minute : ℕ) → minute < 256 → timeOfDay (word hour minute) ≡ (leb hour 23 && leb minute 59)
+
 abbrev pub or65535 : (ℕ → Bool) → ℕ → Bool
 or65535 range v = range v || eqb v 65535
 
--- the table, in the order of the numbers; a time of day has its hour in the high byte and its minute in the low one
+-- the table, in the order of the numbers
 abbrev pub rows : List Row
 rows =
     row 2 no any 0
@@ -48,9 +57,9 @@ rows =
     ∷ row 936 no any 0
     ∷ row 952 yes (fromTo 1 1440) 15
     ∷ row 953 yes (fromTo 2 25) 2
-    ∷ row 955 yes (fromTo 0 5947) 0
+    ∷ row 955 yes timeOfDay 0
     ∷ row 956 yes (fromTo 0 59) 0
-    ∷ row 957 yes (or65535 (fromTo 0 5947)) 65535
+    ∷ row 957 yes (or65535 timeOfDay) 65535
     ∷ row 958 yes (fromTo 1 1440) 30
     ∷ row 959 yes (or65535 (fromTo 1 3600)) 60
     ∷ row 960 yes (fromTo 1 1440) 15

@@ -1,7 +1,7 @@
 // The registers of a station: where each has its value, what may be written to it, and runs of them.
 ghost use mathlib.Core.Path.{_≡_};
 ghost use Rattle.base.specs.Words.{wordsOf};
-ghost use Rattle.mop_registers.specs.Rows.{placeOf, mayWrite, takes, factory};
+ghost use Rattle.mop_registers.specs.Rows.{timeOfDay, placeOf, mayWrite, takes, factory};
 ghost use Rattle.mop_registers.specs.Runs.{runExists, runMayWrite, runTakes};
 ghost use Rattle.mop_registers.specs.Private.Columns.{allowsWrite, valuesIn, writeAt, rangeAt};
 
@@ -14,11 +14,14 @@ enum Access {
     ReadWrite,
 }
 
-// The values that a register takes: any; from the least to the largest; these, or 65535; none, where no register is.
+// The values that a register takes: any; from the least to the largest; these, or 65535; the times of day; these, or
+// 65535; none, where no register is.
 enum Range {
     Any,
     FromTo(u16, u16),
     FromToOr65535(u16, u16),
+    TimeOfDay,
+    TimeOfDayOr65535,
     NoValue,
 }
 
@@ -75,9 +78,9 @@ fn range_at(place: usize) -> Range
         7 => Range::Any, // 936
         8 => Range::FromTo(1, 1440), // 952
         9 => Range::FromTo(2, 25), // 953
-        10 => Range::FromTo(0, 5947), // 955
+        10 => Range::TimeOfDay, // 955
         11 => Range::FromTo(0, 59), // 956
-        12 => Range::FromToOr65535(0, 5947), // 957
+        12 => Range::TimeOfDayOr65535, // 957
         13 => Range::FromTo(1, 1440), // 958
         14 => Range::FromToOr65535(1, 3600), // 959
         15 => Range::FromTo(1, 1440), // 960
@@ -97,6 +100,13 @@ fn may_write(number: usize) -> bool
     }
 }
 
+// Whether a value is a time of day: the hour in its high byte, and the minute in its low one.
+fn is_time_of_day(value: u16) -> bool
+    ensures { λ r. ⌜ r ≡ timeOfDay value ⌝ }
+{
+    (value / 256 <= 23) & (value % 256 <= 59)
+}
+
 // Whether a value is in a register's range.
 fn takes(number: usize, value: u16) -> bool
     ensures { λ r. ⌜ r ≡ takes number value ⌝ }
@@ -105,6 +115,8 @@ fn takes(number: usize, value: u16) -> bool
         Range::Any => true,
         Range::FromTo(from, to) => (from <= value) & (value <= to),
         Range::FromToOr65535(from, to) => ((from <= value) & (value <= to)) | (value == 65535),
+        Range::TimeOfDay => is_time_of_day(value),
+        Range::TimeOfDayOr65535 => is_time_of_day(value) | (value == 65535),
         Range::NoValue => false,
     }
 }

@@ -17,6 +17,7 @@ fn show_limits() {
     station_limits::lengths();
     station_limits::outputs();
     station_limits::bodies();
+    station_limits::times();
     net_limits::setups();
     net_limits::counts();
     net_limits::orders();

@@ -220,3 +220,37 @@ pub(crate) fn bodies() {
     body_case(952, 2, 0, 0, 12, 1024);
     body_case(955, 8, 0, 0, 12, 1024);
 }
+
+// A value of two bytes, written to a register, with an output of so many places.
+fn value_case(number: u16, high: u8, low: u8, places: usize) {
+    let mut t = runs(0, 0, number, 1);
+    places::put(&[high, low], &mut t, 12);
+    call(0x55, TABLE_LENGTH, &t, 14, places);
+}
+
+// The times of day about their limits, written to a register: minutes 59 and 60 of each hour before 23, and all minutes to
+// 60 of hours 23 and 24.
+fn time_cases(number: u16) {
+    let mut hour: u8 = 0;
+    while hour < 23 {
+        value_case(number, hour, 59, 1024);
+        value_case(number, hour, 60, 1024);
+        hour += 1;
+    }
+    let mut minute: u8 = 0;
+    while minute <= 60 {
+        value_case(number, 23, minute, 1024);
+        value_case(number, 24, minute, 1024);
+        minute += 1;
+    }
+}
+
+// Times of day: about their limits; 65535; and 08:75 with an output that is too short.
+pub(crate) fn times() {
+    time_cases(955);
+    time_cases(957);
+    value_case(955, 255, 255, 1024);
+    value_case(957, 255, 255, 1024);
+    value_case(955, 8, 75, 8);
+    value_case(957, 8, 75, 8);
+}

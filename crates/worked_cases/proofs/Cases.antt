@@ -141,6 +141,7 @@ worked-cases =
     also travels-by _ _ refl _ refl _ _ _ refl refl refl refl
     also refl also refl also refl also refl also refl also refl also refl
     also refl also refl also refl also refl also refl also refl also refl also refl
+    also refl also refl also refl also refl also refl also refl also refl
     also promised-by _ _ _ refl refl refl (suc-ne-zero _) refl refl refl
     also travels-by _ _ refl _ refl _ _ _ refl refl refl refl
     also promised-by _ _ _ refl refl refl (suc-ne-zero _) refl refl refl
@@ -153,6 +154,7 @@ worked-cases =
     also answered-by _ _ _ _ _ _ _ refl refl refl refl
     also answered-by _ _ _ _ _ _ _ refl refl refl refl
     also rejected-by _ _ _ _ _ _ _ refl refl refl 8 refl
+    also rejected-by _ _ _ _ _ _ _ refl refl refl 10 refl
     also unreached-by _ _ _ _ _ _ _ refl refl refl
     also refl
     also refl also refl also refl also refl also refl also refl also refl also refl also refl

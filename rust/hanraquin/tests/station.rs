@@ -109,6 +109,33 @@ fn bodies_that_are_refused() {
 }
 
 #[test]
+fn times_of_day() {
+    let is_time = |value: u16| value / 256 < 24 && value % 256 < 60;
+    for value in 0..=u16::MAX {
+        let [high, low] = value.to_be_bytes();
+        for (number, good) in [
+            (955, is_time(value)),
+            (957, is_time(value) || value == 65535),
+        ] {
+            let (mut registers, place) = (FACTORY, place_of(number).expect("a register"));
+            // What is stored before is read, also if it is no time of day.
+            registers[place] = 0x084B;
+            let before = registers;
+            let [first, last] = number.to_be_bytes();
+            let reply = answer(&mut registers, &[first, last, 1, first, last, 1, high, low]);
+            let read = answer(&mut registers, &[first, last, 1, 0, 0, 0]).expect("a reply");
+            if good {
+                assert_eq!(reply, Ok(read), "{number} {value}");
+                assert_eq!(registers[place], value);
+            } else {
+                assert_eq!(reply, Err(Refusal::ValueRange), "{number} {value}");
+                assert_eq!((registers, &read[9..]), (before, &[0x08, 0x4B][..]));
+            }
+        }
+    }
+}
+
+#[test]
 fn headers_that_are_refused() {
     for (telegram, refusal) in [
         (&[0x60, 0xFF, 0x12, 0x00, 0x00][..], Refusal::HeaderCut),

@@ -163,7 +163,7 @@ fn most(telegram: &[u8]) -> usize {
 mod tests {
     use super::*;
     use crate::header::Function;
-    use crate::registers::factory;
+    use crate::registers::{factory, time};
     use crate::samples::{body, long, short, Random, IDLE};
 
     const FILL: u8 = 0xA5;
@@ -771,7 +771,8 @@ mod tests {
             (8, body((2, 1), 301, &[1])),
             (9, body((2, 1), 2, &[1])),
             (10, body((2, 1), 953, &[26])),
-            (10, body((2, 1), 955, &[0, 0, 5948])),
+            (10, body((2, 1), 955, &[time(8, 75)])),
+            (10, body((2, 1), 955, &[0, 0, time(23, 60)])),
         ] {
             // Called third, second and at once.
             for (block, count) in [

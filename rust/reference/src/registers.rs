@@ -1,10 +1,42 @@
 //! The registers of a station: which numbers exist, which can be written, and with what.
 
+use Range::{Interval, TimeOfDay};
+
 /// How many registers a station has.
 pub const COUNT: usize = 18;
 
 /// The values of a station's registers, each at its place in [`ROWS`].
 pub type Table = [u16; COUNT];
+
+/// The last hour of a day.
+pub const LAST_HOUR: u16 = 23;
+
+/// The last minute of an hour.
+pub const LAST_MINUTE: u16 = 59;
+
+/// The value of a time of day, good or not.
+pub fn time(hour: u16, minute: u16) -> u16 {
+    256 * hour + minute
+}
+
+/// A range of values.
+#[derive(Clone, Copy, PartialEq, Eq, Debug)]
+pub enum Range {
+    /// Every value from the first to the second, both included.
+    Interval(u16, u16),
+    /// A time of day: the hour is in the high byte, the minute in the low byte.
+    TimeOfDay,
+}
+
+impl Range {
+    /// Whether the value is in the range.
+    pub fn has(&self, value: u16) -> bool {
+        match *self {
+            Range::Interval(low, high) => low <= value && value <= high,
+            Range::TimeOfDay => value / 256 <= LAST_HOUR && value % 256 <= LAST_MINUTE,
+        }
+    }
+}
 
 /// What is fixed about one register.
 #[derive(Clone, Copy, PartialEq, Eq, Debug)]
@@ -13,10 +45,8 @@ pub struct Row {
     pub number: u16,
     /// Whether a telegram may write it.
     pub write: bool,
-    /// Smallest value of its range.
-    pub low: u16,
-    /// Largest value of its range.
-    pub high: u16,
+    /// Range of the values that it may be given.
+    pub range: Range,
     /// A single value outside the range that is good as well.
     pub also: Option<u16>,
     /// Value that a new station has.
@@ -26,51 +56,46 @@ pub struct Row {
 impl Row {
     /// Whether the value is one that this register may be given.
     pub fn takes(&self, value: u16) -> bool {
-        (self.low <= value && value <= self.high) || self.also == Some(value)
+        self.range.has(value) || self.also == Some(value)
     }
 }
 
 /// One line of the table below.
-const fn row(
-    number: u16,
-    write: bool,
-    low: u16,
-    high: u16,
-    also: Option<u16>,
-    factory: u16,
-) -> Row {
+const fn row(number: u16, write: bool, range: Range, also: Option<u16>, factory: u16) -> Row {
     Row {
         number,
         write,
-        low,
-        high,
+        range,
         also,
         factory,
     }
 }
 
+/// Every value that there is.
+const ANY: Range = Interval(0, u16::MAX);
+
 /// All registers, by number.
 #[rustfmt::skip]
 pub const ROWS: [Row; COUNT] = [
-    //  number, write, low,  high, also,        factory
-    row(     2, false,   0, 65535, None,              0),
-    row(   300, true,    0,     3, None,              0),
-    row(   931, false,   0, 65535, None,              0),
-    row(   932, false,   0, 65535, None,              0),
-    row(   933, false,   0, 65535, None,              0),
-    row(   934, false,   0, 65535, None,              0),
-    row(   935, false,   0, 65535, None,              0),
-    row(   936, false,   0, 65535, None,              0),
-    row(   952, true,    1,  1440, None,             15),
-    row(   953, true,    2,    25, None,              2),
-    row(   955, true,    0,  5947, None,              0),
-    row(   956, true,    0,    59, None,              0),
-    row(   957, true,    0,  5947, Some(65535),   65535),
-    row(   958, true,    1,  1440, None,             30),
-    row(   959, true,    1,  3600, Some(65535),      60),
-    row(   960, true,    1,  1440, None,             15),
-    row(   961, true,    1,  1440, None,             30),
-    row(   962, true,    0,     1, None,              0),
+    //  number, write, range,             also,        factory
+    row(     2, false, ANY,               None,              0),
+    row(   300, true,  Interval(0,    3), None,              0),
+    row(   931, false, ANY,               None,              0),
+    row(   932, false, ANY,               None,              0),
+    row(   933, false, ANY,               None,              0),
+    row(   934, false, ANY,               None,              0),
+    row(   935, false, ANY,               None,              0),
+    row(   936, false, ANY,               None,              0),
+    row(   952, true,  Interval(1, 1440), None,             15),
+    row(   953, true,  Interval(2,   25), None,              2),
+    row(   955, true,  TimeOfDay,         None,              0),
+    row(   956, true,  Interval(0,   59), None,              0),
+    row(   957, true,  TimeOfDay,         Some(65535),   65535),
+    row(   958, true,  Interval(1, 1440), None,             30),
+    row(   959, true,  Interval(1, 3600), Some(65535),      60),
+    row(   960, true,  Interval(1, 1440), None,             15),
+    row(   961, true,  Interval(1, 1440), None,             30),
+    row(   962, true,  Interval(0,    1), None,              0),
 ];
 
 /// The place of the register with this number, if there is one.
@@ -108,6 +133,13 @@ mod tests {
     /// The row of a number that has one.
     fn of(number: u16) -> Row {
         ROWS[place(number).expect("a register")]
+    }
+
+    /// Every value that a register takes, in order.
+    fn taken(number: u16) -> Vec<u16> {
+        (0..=u16::MAX)
+            .filter(|&value| of(number).takes(value))
+            .collect()
     }
 
     #[test]
@@ -159,7 +191,7 @@ mod tests {
     }
 
     #[test]
-    fn every_value_of_every_register() {
+    fn every_value_of_every_interval() {
         for value in 0..=u16::MAX {
             for number in [2, 931, 932, 933, 934, 935, 936] {
                 assert!(of(number).takes(value));
@@ -169,9 +201,7 @@ mod tests {
             }
             assert_eq!(of(300).takes(value), value <= 3);
             assert_eq!(of(953).takes(value), (2..=25).contains(&value));
-            assert_eq!(of(955).takes(value), value <= 5947);
             assert_eq!(of(956).takes(value), value <= 59);
-            assert_eq!(of(957).takes(value), value <= 5947 || value == 65535);
             assert_eq!(
                 of(959).takes(value),
                 (1..=3600).contains(&value) || value == 65535
@@ -181,13 +211,33 @@ mod tests {
     }
 
     #[test]
-    fn highest_time_of_day() {
-        assert_eq!(u16::from_be_bytes([23, 59]), 5947);
-        assert_eq!(of(955).high, 5947);
-        assert_eq!(of(957).high, 5947);
-        // A plain interval: the low byte is not looked at on its own.
-        assert!(of(955).takes(u16::from_be_bytes([8, 75])));
-        assert!(of(957).takes(u16::from_be_bytes([8, 75])));
+    fn every_time_of_day() {
+        let mut times = vec![];
+        for hour in 0..24 {
+            for minute in 0..60 {
+                times.push(time(hour, minute));
+            }
+        }
+        assert_eq!(times.len(), 1440);
+        assert_eq!(taken(955), times);
+        times.push(65535);
+        assert_eq!(taken(957), times);
+    }
+
+    #[test]
+    fn hour_and_minute_have_limits_of_their_own() {
+        assert_eq!((time(8, 75), time(23, 59)), (2123, 5947));
+        for row in [of(955), of(957)] {
+            for good in [time(0, 0), time(0, 59), time(1, 0), time(23, 0), 5947] {
+                assert!(row.takes(good), "{good}");
+            }
+            // The first four are below 23:59.
+            let minutes = [time(0, 60), time(0, 255), 2123, time(22, 60), time(23, 60)];
+            let hours = [time(24, 0), time(24, 59), time(255, 59), 65534];
+            for bad in minutes.into_iter().chain(hours) {
+                assert!(!row.takes(bad), "{bad}");
+            }
+        }
     }
 
     #[test]

@@ -122,7 +122,7 @@ fn carry_out(table: &mut Table, body: &[u8]) -> Result<Vec<u8>, u8> {
 #[cfg(test)]
 mod tests {
     use super::*;
-    use crate::registers::{factory, COUNT};
+    use crate::registers::{factory, time, COUNT};
     use crate::samples::{body, long, short, Random, IDLE};
 
     const FILL: u8 = 0xA5;
@@ -191,6 +191,14 @@ mod tests {
     /// The reply to it.
     fn direct_reply(body: &[u8]) -> Vec<u8> {
         short(0xE0, [0x00, 0x55, 0x00, 0x00], body)
+    }
+
+    /// The reply to it that shows these values, from this number on.
+    fn shown(start: u16, values: &[u16]) -> Vec<u8> {
+        let mut body = start.to_be_bytes().to_vec();
+        body.push(u8::try_from(values.len()).expect("a count"));
+        body.extend(values.iter().flat_map(|value| value.to_be_bytes()));
+        direct_reply(&body)
     }
 
     /// Refusal of a body by station 55.
@@ -838,24 +846,27 @@ mod tests {
     }
 
     #[test]
-    fn length_comes_before_registers() {
-        // Unknown registers in both runs, and a byte too many.
-        let mut body = body((4, 1), 5, &[0]);
-        assert_eq!(refusal(&body), Answer::Refused(8));
-        body.push(0);
-        assert_eq!(refusal(&body), Answer::Refused(7));
+    fn length_comes_before_registers_and_values() {
+        // Unknown registers in both runs, and a minute that is none.
+        for (number, mut body) in [
+            (8, body((4, 1), 5, &[0])),
+            (10, body((955, 1), 955, &[time(8, 75)])),
+        ] {
+            assert_eq!(refusal(&body), Answer::Refused(number));
+            assert_eq!(refusal(&body[..7]), Answer::Refused(7));
+            body.push(0);
+            assert_eq!(refusal(&body), Answer::Refused(7));
+        }
     }
 
     #[test]
     fn every_register_is_read() {
         for (place, number) in ROWS.map(|row| row.number).into_iter().enumerate() {
             let telegram = direct(&body((number, 1), 0, &[]));
-            let [high, low] = number.to_be_bytes();
-            let [upper, lower] = odd_table()[place].to_be_bytes();
             let mut table = odd_table();
             assert_eq!(
                 sent(0x55, &mut table, &telegram),
-                direct_reply(&[high, low, 1, upper, lower])
+                shown(number, &odd_table()[place..=place])
             );
             assert_eq!(table, odd_table());
         }
@@ -890,9 +901,7 @@ mod tests {
         let values = [5947, 59, 65535, 1440, 65535, 1440, 1440, 1];
         let telegram = direct(&body((955, 8), 955, &values));
         let mut table = odd_table();
-        let mut reply = vec![0x03, 0xBB, 8];
-        reply.extend(values.iter().flat_map(|value| value.to_be_bytes()));
-        assert_eq!(sent(0x55, &mut table, &telegram), direct_reply(&reply));
+        assert_eq!(sent(0x55, &mut table, &telegram), shown(955, &values));
         let mut expected = odd_table();
         expected[10..=17].copy_from_slice(&values);
         assert_eq!(table, expected);
@@ -962,14 +971,25 @@ mod tests {
 
     #[test]
     fn values_at_the_limits() {
+        // No times of day; 957 takes 65535 as well, and 955 does not.
+        let bad_ends = [
+            60,
+            255,
+            time(8, 75),
+            5948,
+            time(24, 0),
+            time(255, 59),
+            65534,
+        ];
+        let bad_starts = [&bad_ends[..], &[65535]].concat();
         // Number, place, and values that are taken, then ones that are not.
         let cases: [(u16, usize, &[u16], &[u16]); 11] = [
             (300, 1, &[0, 1, 2, 3], &[4, 255, 256, 65535]),
             (952, 8, &[1, 15, 1440], &[0, 1441, 65535]),
             (953, 9, &[2, 25], &[0, 1, 26, 65535]),
-            (955, 10, &[0, 59, 60, 0x084B, 5947], &[5948, 65534, 65535]),
-            (956, 11, &[0, 59], &[60, 65535]),
-            (957, 12, &[0, 0x084B, 5947, 65535], &[5948, 65534]),
+            (955, 10, &[0, 59, 256, time(8, 15), 5947], &bad_starts),
+            (956, 11, &[0, 59], &[60, 256, time(1, 59), 65535]),
+            (957, 12, &[0, 59, 256, time(8, 15), 5947, 65535], &bad_ends),
             (958, 13, &[1, 1440], &[0, 1441, 65535]),
             (959, 14, &[1, 3600, 65535], &[0, 3601, 65534]),
             (960, 15, &[1, 1440], &[0, 1441, 65535]),
@@ -980,12 +1000,7 @@ mod tests {
             for &value in good {
                 let telegram = direct(&body((number, 1), number, &[value]));
                 let mut table = odd_table();
-                let [high, low] = number.to_be_bytes();
-                let [upper, lower] = value.to_be_bytes();
-                assert_eq!(
-                    sent(0x55, &mut table, &telegram),
-                    direct_reply(&[high, low, 1, upper, lower])
-                );
+                assert_eq!(sent(0x55, &mut table, &telegram), shown(number, &[value]));
                 let mut expected = odd_table();
                 expected[place] = value;
                 assert_eq!(table, expected);
@@ -1030,7 +1045,13 @@ mod tests {
         assert_eq!(refusal(&body((0, 0), 2, &[0; 2])), Answer::Refused(8));
         // 8 at the end of a write run that begins with a bad value.
         assert_eq!(refusal(&body((0, 0), 953, &[26, 0])), Answer::Refused(8));
+        // The same with times of day that are none.
+        let bad = [time(8, 75); 9];
+        assert_eq!(refusal(&body((954, 1), 955, &bad[..3])), Answer::Refused(8));
+        assert_eq!(refusal(&body((0, 0), 955, &bad)), Answer::Refused(8));
+        assert_eq!(refusal(&body((0, 0), 957, &bad[..7])), Answer::Refused(8));
         // An input's range is never the reason.
+        assert_eq!(refusal(&body((955, 3), 931, &bad[..6])), Answer::Refused(9));
         assert_eq!(refusal(&body((2, 1), 936, &[65535])), Answer::Refused(9));
         // 10 with a good read run.
         assert_eq!(refusal(&body((955, 8), 953, &[26])), Answer::Refused(10));
@@ -1038,8 +1059,13 @@ mod tests {
 
     #[test]
     fn range_comes_before_output() {
-        let (answer, _) = call(0x55, &mut factory(), &direct(&body((2, 1), 953, &[26])), 0);
-        assert_eq!(answer, Answer::Refused(10));
+        for (number, value) in [(953, 26), (955, time(8, 75)), (957, time(8, 75))] {
+            let telegram = direct(&body((2, 1), number, &[value]));
+            for room in 0..=11 {
+                let (answer, _) = call(0x55, &mut factory(), &telegram, room);
+                assert_eq!(answer, Answer::Refused(10), "{value} to {number}");
+            }
+        }
         let mut table = factory();
         let telegram = direct(&body((2, 1), 953, &[25]));
         let (answer, _) = call(0x55, &mut table, &telegram, 10);
@@ -1068,12 +1094,36 @@ mod tests {
 
     #[test]
     fn all_values_or_none() {
-        let good = [0, 0, 0, 1, 1, 1, 1, 0];
-        for place in 0..good.len() {
-            let mut values = good;
-            values[place] = 6000;
-            let body = body((955, 8), 955, &values);
-            assert_eq!(refusal(&body), Answer::Refused(10), "{place}");
+        // For each register from 955 on, a value that it takes and one that it does not.
+        let pairs = [
+            [time(8, 15), time(8, 75)],
+            [59, 60],
+            [time(17, 45), time(17, 60)],
+            [1440, 1441],
+            [3600, 3601],
+            [1, 0],
+            [1440, 1441],
+            [1, 2],
+        ];
+        for from in 0..pairs.len() {
+            for to in from + 1..=pairs.len() {
+                // Each bit stands for a place of the run; it is 1 if the value there is bad.
+                for bad in 0..1_usize << (to - from) {
+                    let value = |i: usize| pairs[i][(bad >> (i - from)) & 1];
+                    let values: Vec<u16> = (from..to).map(value).collect();
+                    let body = body((955, 8), 955 + from as u16, &values);
+                    if bad == 0 {
+                        let mut table = odd_table();
+                        let reply = sent(0x55, &mut table, &direct(&body));
+                        let mut expected = odd_table();
+                        expected[10 + from..10 + to].copy_from_slice(&values);
+                        assert_eq!(table, expected);
+                        assert_eq!(reply, shown(955, &expected[10..]));
+                    } else {
+                        assert_eq!(refusal(&body), Answer::Refused(10), "{values:?}");
+                    }
+                }
+            }
         }
     }
 
@@ -1097,6 +1147,32 @@ mod tests {
         let mut expected = [0xFFFF; COUNT];
         expected[1] = 3;
         assert_eq!(table, expected);
+    }
+
+    #[test]
+    fn bad_minute_in_the_table() {
+        let bad = time(8, 75);
+        let mut before = factory();
+        (before[10], before[12]) = (bad, bad);
+        let mut table = before;
+        // It is read, and other registers are written beside it.
+        let telegram = direct(&body((955, 3), 956, &[7]));
+        before[11] = 7;
+        assert_eq!(
+            sent(0x55, &mut table, &telegram),
+            shown(955, &[bad, 7, bad])
+        );
+        assert_eq!(table, before);
+        // What was read is not taken back, alone or with the others.
+        for (start, values) in [(955, &[bad][..]), (957, &[bad]), (955, &[bad, 7, bad])] {
+            let telegram = direct(&body((955, 3), start, values));
+            let (answer, _) = call(0x55, &mut table, &telegram, 1024);
+            assert_eq!(answer, Answer::Refused(10));
+        }
+        // Good values replace it.
+        let times = [time(8, 15), 7, 65535];
+        let telegram = direct(&body((955, 3), 955, &times));
+        assert_eq!(sent(0x55, &mut table, &telegram), shown(955, &times));
     }
 
     // Anything at all

@@ -3,7 +3,7 @@
 use super::{MEGABYTE, MOST};
 use crate::answer::{done, refused, KIND_NOT_MINE, NOT_MINE};
 use crate::call::{arguments, Call, Compare, Kind, Outcome, Stop};
-use crate::inputs::telegrams::{self, all_runs, body, faulty_bodies, first_entry, is_extended};
+use crate::inputs::telegrams::{self, all_runs, body, ends, faulty_bodies, first_entry, is_extended};
 use crate::inputs::telegrams::{row, telegram, writable_runs, FUNCTIONS, REPLY, REQUEST};
 use crate::inputs::{every_telegram, Random};
 use crate::lent::Lent;
@@ -71,6 +71,9 @@ impl Call for Station {
         ("refused 7", |_, o| o.refused(7)),
         ("refused 8", |_, o| o.refused(8)),
         ("refused 9", |_, o| o.refused(9)),
+        ("refused 10, minute", |s, o| {
+            o.refused(10) && matches!(s.telegram[..], [.., 0x03, 0xBB | 0xBD, 1, 0..=23, 60..=255])
+        }),
         ("refused 10", |_, o| o.refused(10)),
         ("refused 11, destination", |s, o| o.refused(11) && s.is_destination()),
         ("refused 11, relay", |_, o| o.refused(11)),
@@ -183,9 +186,10 @@ impl Random {
 /// Bodies that a destination carries out, and such that it refuses.
 fn bodies(random: &mut Random) -> Vec<Vec<u8>> {
     let mut bodies = faulty_bodies();
-    // Every register number, read and written alone.
+    // Every register number, read and written alone; and every value of a time of day.
     for number in 0..=u16::MAX {
         bodies.extend([body((number, 1), 0, &[]), body((0, 0), number, &[1])]);
+        bodies.extend([955, 957].map(|time| body((time, 1), time, &[number])));
     }
     // Runs about every register and at both ends of the numbers, read and written.
     let mut starts: Vec<u16> = (0..5).chain(65520..=65535).collect();
@@ -221,7 +225,7 @@ fn bodies(random: &mut Random) -> Vec<Vec<u8>> {
 /// written, with a value that is not taken at each place of it.
 fn values(random: &mut Random) -> Vec<Vec<u8>> {
     let mut limits = vec![255, 256, 32767, 32768, 65534, 65535];
-    for limit in ROWS.into_iter().flat_map(|row| [row.low, row.high]) {
+    for limit in ROWS.into_iter().flat_map(|row| ends(row.range)) {
         limits.extend([limit.wrapping_sub(1), limit, limit.wrapping_add(1)]);
     }
     let mut bodies = Vec::new();
@@ -330,6 +334,17 @@ mod tests {
         });
         // A few values, the last of them bad, in one of the forms.
         assert!(smallest.telegram.len() <= 7 + 2 + 6 + 8, "{}", smallest.text());
+    }
+
+    #[test]
+    fn a_minute_over_59_taken() {
+        let smallest = found::<Station>("the answer", |own, registers, telegram, out| {
+            match (plain::station(own, registers, telegram, out), body_of(telegram)) {
+                (answer, [.., 0x03, 0xBB | 0xBD, _, 0..=23, 60..=255]) if kind(answer) == 10 => done(9),
+                (answer, _) => answer,
+            }
+        });
+        assert!(smallest.telegram.len() <= 7 + 2 + 6 + 2, "{}", smallest.text());
     }
 
     #[test]

@@ -1,7 +1,7 @@
 //! Telegrams and their parts, good ones and others, made from a seed.
 
 use super::Random;
-use reference::registers::{factory, Row, ROWS};
+use reference::registers::{factory, time, Range, Row, LAST_HOUR, LAST_MINUTE, ROWS};
 
 pub const REQUEST: u8 = 0x60;
 pub const REPLY: u8 = 0xE0;
@@ -75,6 +75,14 @@ pub fn row(number: u16) -> Option<Row> {
     ROWS.into_iter().find(|row| row.number == number)
 }
 
+/// The lowest and the highest value of a range.
+pub fn ends(range: Range) -> [u16; 2] {
+    match range {
+        Range::Interval(low, high) => [low, high],
+        Range::TimeOfDay => [0, time(LAST_HOUR, LAST_MINUTE)],
+    }
+}
+
 /// Every run that exists: its start and its count.
 pub fn all_runs() -> Vec<(u16, u8)> {
     let mut runs = Vec::new();
@@ -97,9 +105,10 @@ pub fn writable_runs() -> Vec<(u16, u8)> {
 pub fn faulty_bodies() -> Vec<Vec<u8>> {
     let reads = [(955, 8), (953, 2), (0, 1), (65535, 0), (65535, 2)];
     #[rustfmt::skip]
-    let writes: [(u16, &[u16]); 9] = [
+    let writes: [(u16, &[u16]); 12] = [
         (0, &[]), (952, &[1440, 25]), (952, &[1440, 26]), (952, &[0, 25]), (953, &[26, 0]),
         (931, &[0, 0]), (935, &[0, 0, 0]), (936, &[65535]), (65535, &[1, 1]),
+        (955, &[0x173B, 59, 65535]), (955, &[0x084B, 59, 0]), (957, &[0x173C, 1, 1, 1, 1, 0, 1]),
     ];
     let mut bodies = Vec::new();
     for read in reads {
@@ -184,21 +193,34 @@ impl Random {
         }
     }
 
-    /// A value that a register takes, often one at an end of its range.
-    pub fn good_value(&mut self, row: Row) -> u16 {
+    /// A number from the lowest to the highest, often one of these.
+    fn between(&mut self, low: u16, high: u16) -> u16 {
         match self.below(4) {
-            0 => row.low,
-            1 => row.high,
-            2 => row.also.unwrap_or(row.high),
-            _ => row.low + self.below(usize::from(row.high - row.low) + 1) as u16,
+            0 => low,
+            1 => high,
+            _ => low + self.below(usize::from(high - low) + 1) as u16,
         }
     }
 
-    /// A value that a register does not take; any value where it takes all.
+    /// A value that a register takes, often one at an end of its range.
+    pub fn good_value(&mut self, row: Row) -> u16 {
+        match (row.also, row.range) {
+            (Some(also), _) if self.once_in(4) => also,
+            (_, Range::Interval(low, high)) => self.between(low, high),
+            (_, Range::TimeOfDay) => time(self.between(0, LAST_HOUR), self.between(0, LAST_MINUTE)),
+        }
+    }
+
+    /// A value that a register does not take; any value where it takes all. Of a time of day the
+    /// minute is wrong more often than the hour.
     pub fn bad_value(&mut self, row: Row) -> u16 {
-        let (under, over) = (row.low.wrapping_sub(1), row.high.wrapping_add(1));
-        let any = self.word();
-        let mut values = vec![under, over, row.high | 0x8000, 65534, 65535, any];
+        let ([low, high], any) = (ends(row.range), self.word());
+        let mut values = vec![low.wrapping_sub(1), high.wrapping_add(1), high | 0x8000, 65534, 65535, any];
+        if row.range == Range::TimeOfDay {
+            let minutes = [LAST_MINUTE + 1, self.between(LAST_MINUTE + 1, 255), 255];
+            values.extend(minutes.map(|minute| time(self.between(0, LAST_HOUR), minute)));
+            values.push(time(LAST_HOUR + 1, self.between(0, LAST_MINUTE)));
+        }
         values.retain(|&value| !row.takes(value));
         if values.is_empty() {
             any
@@ -340,6 +362,11 @@ mod tests {
             for _ in 0..100 {
                 assert!(row.takes(random.good_value(row)) && !row.takes(random.bad_value(row)));
             }
+        }
+        // Of the times of day that are none, many have a good hour.
+        for row in ROWS.into_iter().filter(|row| row.range == Range::TimeOfDay) {
+            let hours = (0..1000).map(|_| random.bad_value(row) / 256);
+            assert!(hours.filter(|&hour| hour <= LAST_HOUR).count() > 300);
         }
     }
 }

@@ -24,34 +24,35 @@ pub fn writable(place: usize) -> bool {
     place == 1 || place >= 8
 }
 
-/// The lowest and the highest value of every register, and one more that it takes.
-const RANGES: [(u16, u16, u16); COUNT] = [
-    (0, 65535, 0),
-    (0, 3, 0),
-    (0, 65535, 0),
-    (0, 65535, 0),
-    (0, 65535, 0),
-    (0, 65535, 0),
-    (0, 65535, 0),
-    (0, 65535, 0),
-    (1, 1440, 1),
-    (2, 25, 2),
-    (0, 5947, 0),
-    (0, 59, 0),
-    (0, 5947, 65535),
-    (1, 1440, 1),
-    (1, 3600, 65535),
-    (1, 1440, 1),
-    (1, 1440, 1),
-    (0, 1, 0),
+/// The lowest and the highest value of every register, the highest low byte of its values, and one
+/// more that it takes.
+const RANGES: [(u16, u16, u8, u16); COUNT] = [
+    (0, 65535, 255, 0),
+    (0, 3, 255, 0),
+    (0, 65535, 255, 0),
+    (0, 65535, 255, 0),
+    (0, 65535, 255, 0),
+    (0, 65535, 255, 0),
+    (0, 65535, 255, 0),
+    (0, 65535, 255, 0),
+    (1, 1440, 255, 1),
+    (2, 25, 255, 2),
+    (0, 0x173B, 59, 0), // 23:59
+    (0, 59, 255, 0),
+    (0, 0x173B, 59, 65535),
+    (1, 1440, 255, 1),
+    (1, 3600, 255, 65535),
+    (1, 1440, 255, 1),
+    (1, 1440, 255, 1),
+    (0, 1, 255, 0),
 ];
 
 /// Whether the registers from a place on take the values, two bytes each.
 #[inline(always)]
 pub fn take(place: usize, values: &[[u8; 2]]) -> bool {
     let ranges = &RANGES[place..];
-    values.iter().zip(ranges).all(|(&value, &(low, high, also))| {
-        let value = u16::from_be_bytes(value);
-        (low <= value && value <= high) || value == also
+    values.iter().zip(ranges).all(|(&bytes, &(low, high, low_byte, also))| {
+        let value = u16::from_be_bytes(bytes);
+        (low <= value && value <= high && bytes[1] <= low_byte) || value == also
     })
 }
