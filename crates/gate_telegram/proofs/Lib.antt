@@ -1,0 +1,3 @@
+pub mod Telegrams
+pub mod Addresses
+pub mod Cases
