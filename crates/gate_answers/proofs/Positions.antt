@@ -1,0 +1,22 @@
+-- A position by two comparisons: it is not below -1, and at most 100.
+-- Assumes nothing.
+use mathlib.Core.Path.{_≡_, refl}
+use mathlib.Core.Bool.{true, false, false≢true}
+use Prim.Native.Nat.{zero, suc}
+use native.Mathlib.Omega.{arith}
+use borrow.Author.Tests.{ltb-false}
+use lib.IntN.{ℤ, pos, negsuc}
+use lib.Signed.{ltZ, leZ}
+use Rattle.gate_answers.specs.Answers.{isPosition}
+
+pub position-below : (z : ℤ) → ltZ z (negsuc 0) ≡ true → isPosition z ≡ false
+unfolding isPosition
+position-below (pos n) h = absurd (false≢true h)
+position-below (negsuc zero) h = absurd (false≢true h)
+position-below (negsuc (suc n)) h = refl
+
+pub position-upto : (z : ℤ) → ltZ z (negsuc 0) ≡ false → isPosition z ≡ leZ z (pos 100)
+unfolding isPosition
+position-upto (pos n) h = refl
+position-upto (negsuc zero) h = refl
+position-upto (negsuc (suc n)) h = absurd (omega (arith, ltb-false 0 (suc n) h))
