@@ -1,0 +1,4 @@
+pub mod Feeding
+pub mod Telegrams
+pub mod Events
+pub mod Answers

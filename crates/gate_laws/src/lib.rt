@@ -1,0 +1,1 @@
+// Laws of the gate bus as a whole; no code.
