@@ -8,17 +8,12 @@ use lib.IntN.{ℤ}
 use lib.ListN.{length, set}
 use lib.Seq.{sets}
 use Rattle.base.specs.Filling.{denied, fitted}
-use Rattle.base.proofs.Filling.{fitted-short, fitted-room}
-use Rattle.base.proofs.Places.{sets-placed}
+use Rattle.base.proofs.Filling.{fitted-short, fitted-stored}
 use Rattle.signed.specs.Signed.{top8, top32, bitsOf, fourBytes}
 use Rattle.gate_refusal.specs.Writing.{fillingOf}
 use Rattle.gate_refusal.specs.declared.GateWritten.the-variants.{Written}
 use Rattle.gate_answers.specs.Answers.{count, position, isPosition, answerBytes, isAnswer, answerWriting}
 use Rattle.gate_answers.specs.declared.BarrierAnswer.the-variants.{Count, Position}
-
--- bytes that were stored, where there is room for them
-pub stored : (bytes out : List ℕ) → length bytes ≤ length out → fillingOf (Written (length bytes)) (sets out 0 bytes) ≡ fitted bytes out
-stored bytes out h = rw (sets-placed bytes out h, fitted-room bytes out h)
 
 module _ (z : ℤ) (out : List ℕ) where
   pub count-short : length out < 5 → fitted (answerBytes (Count z)) out ≡ denied 11 out
@@ -28,7 +23,7 @@ module _ (z : ℤ) (out : List ℕ) where
   pub count-room : {n : ℕ} {four new : List ℕ} → n ≡ bitsOf top32 z → four ≡ fourBytes n → new ≡ sets (set out 0 count) 1 four →
       5 ≤ length out → fillingOf (Written 5) new ≡ fitted (answerBytes (Count z)) out
   unfolding answerBytes fourBytes
-  count-room e f g h = rw (g, f, e) (stored (answerBytes (Count z)) out h)
+  count-room e f g h = rw (g, f, e) (fitted-stored (answerBytes (Count z)) out h)
 
   pub position-none : isPosition z ≡ false → answerWriting (Position z) out ≡ denied 10 out
   unfolding answerWriting isAnswer
@@ -46,4 +41,4 @@ module _ (z : ℤ) (out : List ℕ) where
     pub position-room : {b : ℕ} → b ≡ bitsOf top8 z → 2 ≤ length out →
         fillingOf (Written 2) (set (set out 0 position) 1 b) ≡ answerWriting (Position z) out
     unfolding answerBytes
-    position-room e h = rw (e, position-good) (stored (answerBytes (Position z)) out h)
+    position-room e h = rw (e, position-good) (fitted-stored (answerBytes (Position z)) out h)

@@ -23,7 +23,8 @@ pub const COUNT: u8 = 0x1C;
 
 pub const POSITION: u8 = 0x1D;
 
-// Done; not done; not now; later; the vehicle count; the position of the beam in percent, -1 for unknown.
+// Yes; no; not at present; it takes time, and another answer follows; the vehicle count; the position of the beam in percent, or
+// -1 where it is unknown.
 pub enum BarrierAnswer {
     Ack,
     Nak,
@@ -40,7 +41,7 @@ pub enum AnswerRead {
 }
 
 // Whether a number is a position.
-fn is_position(z: i8) -> bool
+pub fn is_position(z: i32) -> bool
     ensures { λ r. ⌜ r ≡ isPosition z ⌝ }
 {
     if z < -1 {
@@ -77,7 +78,7 @@ fn write_count(z: i32, out: &mut [u8]) -> GateWritten
 fn write_position(z: i8, out: &mut [u8]) -> GateWritten
     ensures { λ r. ⌜ fillingOf r (now (out .exit)) ≡ answerWriting (Position z) (now (out .entry)) ⌝ }
 {
-    if !is_position(z) {
+    if !is_position(z as i32) {
         return GateWritten::Refused(GateRefusal::Position);
     }
     if out.len() < 2 {
@@ -132,7 +133,7 @@ fn read_position(src: &[u8]) -> AnswerRead
         return AnswerRead::Refused(GateRefusal::Length);
     }
     let z = signed::signed8(src[1]);
-    if !is_position(z) {
+    if !is_position(z as i32) {
         return AnswerRead::Refused(GateRefusal::Position);
     }
     AnswerRead::Answer(BarrierAnswer::Position(z))

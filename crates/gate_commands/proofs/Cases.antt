@@ -8,9 +8,8 @@ use borrow.Author.Tests.{eq-eqb, ne-eqb, lt-ltb, le-ltb}
 use lib.ListN.{length, getD}
 use lib.Seq.{sets}
 use Rattle.base.specs.Filling.{Filling, filled, denied}
-use Rattle.base.proofs.Filling.{fitted-short, fitted-room}
-use Rattle.base.proofs.Places.{sets-placed}
-use Rattle.gate_commands.specs.Commands.{answers, refuses, operation, pair, after, functionOf, commands, carriedOut, functioning, commanding, operate, operating, commandOf, commandWriting}
+use Rattle.base.proofs.Filling.{fitted-short, fitted-stored}
+use Rattle.gate_commands.specs.Commands.{answers, refuses, operation, pair, after, functionOf, commands, carriedOut, functioning, commanding, operateByte, operating, commandOf, commandWriting}
 use Rattle.gate_commands.specs.declared.Found.the-variants.{Function, Unknown}
 use Rattle.gate_commands.specs.declared.GateFunction.{GateFunction}
 use Rattle.gate_commands.specs.declared.GateFunction.the-variants.{Pulse, Activate, Deactivate}
@@ -57,11 +56,11 @@ module _ (r : GateRegisters) (bs : List ℕ) where
   unfolding operating
   operating-length n = simp (ne-eqb _ _ n)
 
-  pub operating-kind : length bs ≡ 3 → (getD bs 0 0 ≡ operate → ⊥) → operating r bs ≡ operation (refuses 3) r
+  pub operating-kind : length bs ≡ 3 → (getD bs 0 0 ≡ operateByte → ⊥) → operating r bs ≡ operation (refuses 3) r
   unfolding operating
   operating-kind n k = simp (eq-eqb _ _ n, ne-eqb _ _ k)
 
-  pub operating-command : length bs ≡ 3 → getD bs 0 0 ≡ operate → operating r bs ≡ commanding r (getD bs 1 0) (getD bs 2 0)
+  pub operating-command : length bs ≡ 3 → getD bs 0 0 ≡ operateByte → operating r bs ≡ commanding r (getD bs 1 0) (getD bs 2 0)
   unfolding operating
   operating-command n k = simp (eq-eqb _ _ n, eq-eqb _ _ k)
 
@@ -73,4 +72,4 @@ module _ (c f : ℕ) (out : List ℕ) where
   pub command-room : 3 ≤ length out → {new : List ℕ} → new ≡ sets out 0 (commandOf c f) →
       _≡_ {A = Filling} (record { given = filled 3; output = new }) (commandWriting c f out)
   unfolding commandWriting
-  command-room h e = rw (e, sets-placed (commandOf c f) out h, fitted-room (commandOf c f) out h)
+  command-room h e = rw e (fitted-stored (commandOf c f) out h)

@@ -9,8 +9,8 @@ use lib.Dec.{eqb, ltb}
 use lib.ListN.{length, getD, set, length-set}
 use lib.Seq.{getD-set-same, getD-set-other, set-getD}
 use Rattle.base.proofs.Choice.{pick-either}
-use Rattle.gate_commands.specs.Commands.{Verdict, Operation, answers, refuses, operation, pair, after, functionOf, commands, carriedOut, functioning, commanding, operate, operating}
-use Rattle.gate_commands.specs.Safety.{levelAt, edgeAt, pairAfter, EdgesOnlySet, PulseKeepsLevels, OnlyAt, OnlyNamedChanges, NotAckKeepsAll, CommandIsCarriedOut, Rows, TableRows}
+use Rattle.gate_commands.specs.Commands.{Verdict, Operation, answers, refuses, operation, pair, after, functionOf, commands, carriedOut, functioning, commanding, operateByte, operating, commandOf}
+use Rattle.gate_commands.specs.Safety.{levelAt, edgeAt, pairAfter, EdgesOnlySet, PulseKeepsLevels, OnlyAt, OnlyNamedChanges, NotAckKeepsAll, Rows, TableRows}
 use Rattle.gate_commands.specs.declared.Found.{Found}
 use Rattle.gate_commands.specs.declared.Found.the-variants.{Function, Unknown}
 use Rattle.gate_commands.specs.declared.GateFunction.{GateFunction}
@@ -78,7 +78,7 @@ operating-lawful r bs =
     let c = getD bs 1 0 in
     pick-either (Lawful r c) (not (eqb (length bs) 3))
     (as-before r c (refuses 7))
-    (pick-either (Lawful r c) (not (eqb (getD bs 0 0) operate))
+    (pick-either (Lawful r c) (not (eqb (getD bs 0 0) operateByte))
     (as-before r c (refuses 3))
     (pick-either (Lawful r c) (ltb c commands) (function-lawful r c (functionOf (getD bs 2 0))) (as-before r c (answers 0x02))))
 
@@ -91,9 +91,10 @@ only-named-changes r bs = operating-lawful r bs .only
 pub not-ack-keeps-all : NotAckKeepsAll
 not-ack-keeps-all r bs = operating-lawful r bs .keeps-all
 
-pub command-is-carried-out : CommandIsCarriedOut
+-- a command as it is written
+pub command-carried-out : (r : GateRegisters) (c f : ℕ) → operating r (commandOf c f) ≡ commanding r c f
 unfolding operating
-command-is-carried-out r c f = refl
+command-carried-out r c f = refl
 
 pub pulse-keeps-levels : PulseKeepsLevels
 unfolding operating commanding functionOf functioning carriedOut
@@ -107,7 +108,7 @@ module _ (r : GateRegisters) (c : ℕ) (levels : c < length (r .levels)) (edges 
   becomes : (b : ℕ) (f : GateFunction) → functionOf b ≡ Function f → pairAfter r c b ≡ after (levelAt r c) f (edgeAt r c)
   unfolding carriedOut
   becomes b f e =
-      rw (command-is-carried-out r c b, command-known r c b there e)
+      rw (command-carried-out r c b, command-known r c b there e)
       (ap₂ pair (getD-set-same (r .levels) c _ false levels) (getD-set-same (r .edges) c _ false edges))
 
   rows : Rows r c

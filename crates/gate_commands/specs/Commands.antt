@@ -1,4 +1,6 @@
--- The operating commands of a barrier: what each does to its level and its edge register, and what it is answered by.
+-- The operating commands of a barrier: what each does to its level and its edge register, and what it is answered by. The
+-- commands are 00 BT, 01 BA, 02 BZ and 03 BS, and 04 to 09 for the multifunction relays 1 to 6. The "level register" of a
+-- command says whether it is held, and its "edge register" that it was given and not yet acted on.
 -- Assumes nothing.
 use Prim.Native.Nat.{ℕ}
 use mathlib.Core.Bool.{Bool, true, false, not}
@@ -21,8 +23,8 @@ use Rattle.gate_commands.specs.declared.Operated.{Operated}
 abbrev pub pair : Bool → Bool → GatePair
 pair l e = record { level = l; edge = e }
 
--- the table: the level before, the function, and the edge before; then level and edge after. A pulse never changes the
--- level, and an edge is only ever set
+-- the table: the level before, the function, and the edge before; then level and edge after. A "pulse" gives a command
+-- without holding it
 abbrev pub after : Bool → GateFunction → Bool → GatePair
 after false Pulse e = pair false true
 after false Activate e = pair true true
@@ -76,18 +78,18 @@ unfoldable pub commanding : GateRegisters → ℕ → ℕ → Operation
 commanding r c f = pick (ltb c commands) (functioning r c (functionOf f)) (operation (answers 0x02) r)
 
 -- the first byte of an operating command
-abbrev pub operate : ℕ
-operate = 0x01
+abbrev pub operateByte : ℕ
+operateByte = 0x01
 
 -- an operating command has three bytes, else 7; the first is 01, else 3; the others are command and function
 unfoldable pub operating : GateRegisters → List ℕ → Operation
 operating r bs =
     pick (not (eqb (length bs) 3)) (operation (refuses 7) r)
-    (pick (not (eqb (getD bs 0 0) operate)) (operation (refuses 3) r) (commanding r (getD bs 1 0) (getD bs 2 0)))
+    (pick (not (eqb (getD bs 0 0) operateByte)) (operation (refuses 3) r) (commanding r (getD bs 1 0) (getD bs 2 0)))
 
 -- a command as it is written, its two bytes as given
 abbrev pub commandOf : ℕ → ℕ → List ℕ
-commandOf c f = operate ∷ c ∷ f ∷ []
+commandOf c f = operateByte ∷ c ∷ f ∷ []
 
 unfoldable pub commandWriting : ℕ → ℕ → List ℕ → Filling
 commandWriting c f out = fitted (commandOf c f) out

@@ -5,7 +5,7 @@ use mathlib.Core.Path.{_≡_}
 use mathlib.Core.Bool.{Bool, true, false}
 use mathlib.Core.List.{List}
 use lib.ListN.{length, getD}
-use Rattle.gate_commands.specs.Commands.{answers, pair, commands, commanding, operating, commandOf}
+use Rattle.gate_commands.specs.Commands.{answers, pair, commands, operating, commandOf}
 use Rattle.gate_commands.specs.declared.GatePair.{GatePair}
 use Rattle.gate_commands.specs.declared.GateRegisters.{GateRegisters}
 
@@ -39,10 +39,6 @@ OnlyNamedChanges = (r : GateRegisters) (bs : List ℕ) → OnlyAt (getD bs 1 0) 
 abbrev pub NotAckKeepsAll : Type 0
 NotAckKeepsAll =
     (r : GateRegisters) (bs : List ℕ) → (operating r bs .verdict ≡ answers 0x01 → ⊥) → operating r bs .registers ≡ r
-
--- what a master writes is what the barrier carries out
-abbrev pub CommandIsCarriedOut : Type 0
-CommandIsCarriedOut = (r : GateRegisters) (c f : ℕ) → operating r (commandOf c f) ≡ commanding r c f
 
 -- the level and the edge of a command, after its data with a function byte
 abbrev pub pairAfter : GateRegisters → ℕ → ℕ → GatePair

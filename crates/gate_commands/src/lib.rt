@@ -12,7 +12,7 @@ ghost use Rattle.gate_commands.specs.Commands.{after, functionOf, carrie
 pub const COMMANDS: usize = 10;
 
 // The first byte of an operating command.
-pub const OPERATE: u8 = 0x01;
+const OPERATE: u8 = 0x01;
 
 // A level and an edge register for each command.
 pub struct GateRegisters {
@@ -33,16 +33,16 @@ impl GateRegisters {
 }
 
 // The functions of a command: 00, 01 and 02.
-pub enum GateFunction {
+enum GateFunction {
     Pulse,
     Activate,
     Deactivate,
 }
 
 // The level and the edge register of one command.
-pub struct GatePair {
-    pub level: bool,
-    pub edge: bool,
+struct GatePair {
+    level: bool,
+    edge: bool,
 }
 
 // The function of a byte, or that there is none.

@@ -12,22 +12,22 @@ use Rattle.base.proofs.Places.{sets-placed}
 use Rattle.base.specs.Places.{placed}
 use Rattle.base.specs.Words.{word}
 use Rattle.crc16.specs.Ccitt.{ccittStart, ccittByte, ccittOver}
-use Rattle.gate_telegram.specs.Telegram.{delimiter, reserved, maxData, slaveToken}
+use Rattle.gate_telegram.specs.Telegram.{startByte, reserved, maxData, slaveToken}
 use Rattle.gate_receive.specs.Receive.{nothing, telegram, token, refuses, to, startingAgain, storing, judging, restOf, destinationOf, lengthOf, dataOf, acceptedOf, judgedOf, droppingOf}
 use Rattle.gate_receive.specs.declared.GateState.the-variants.{Rest, AtDestination, AtSource, AtData, AtLowCheck, OthersSource, Dropping}
 
 module _ (b : ℕ) where
-  pub rest-delimiter : b ≡ delimiter → restOf b ≡ to nothing AtDestination
+  pub rest-start : b ≡ startByte → restOf b ≡ to nothing AtDestination
   unfolding restOf
-  rest-delimiter e = simp (eq-eqb _ _ e)
+  rest-start e = simp (eq-eqb _ _ e)
 
-  pub rest-other : (b ≡ delimiter → ⊥) → restOf b ≡ to nothing Rest
+  pub rest-other : (b ≡ startByte → ⊥) → restOf b ≡ to nothing Rest
   unfolding restOf
   rest-other e = simp (ne-eqb _ _ e)
 
 module _ (own b : ℕ) where
   pub destination-own : b ≡ own →
-      destinationOf own b ≡ to nothing (AtSource b (ccittOver ccittStart (delimiter ∷ b ∷ [])))
+      destinationOf own b ≡ to nothing (AtSource b (ccittOver ccittStart (startByte ∷ b ∷ [])))
   unfolding destinationOf
   destination-own e = simp (eq-eqb _ _ e)
 

@@ -10,7 +10,7 @@ use Rattle.base.specs.Places.{placed}
 use Rattle.base.specs.Words.{word}
 use Rattle.crc16.specs.Ccitt.{ccittStart, ccittByte, ccittOver}
 use Rattle.gate_refusal.specs.Numbers.{numberOf}
-use Rattle.gate_telegram.specs.Telegram.{delimiter, reserved, maxData, slaveToken}
+use Rattle.gate_telegram.specs.Telegram.{startByte, reserved, maxData, slaveToken}
 use Rattle.gate_receive.specs.declared.GateState.{GateState}
 use Rattle.gate_receive.specs.declared.GateState.the-variants.{Rest, AtDestination, AtSource, AtLength, AtData, AtLowCheck, OthersSource, OthersLength, Dropping}
 use Rattle.gate_receive.specs.declared.GateEvent.{GateEvent}
@@ -58,9 +58,6 @@ pub record Storing : Type 0 where
 abbrev pub storing : Reaction → List ℕ → Storing
 storing r st = record { reaction = r; store = st }
 
-abbrev pub storingOf : GateStep → List ℕ → Storing
-storingOf s st = storing (reactionOf s) st
-
 -- the answer, the next state, and the output afterwards
 pub record Judging : Type 0 where
   pub reaction : Reaction
@@ -68,9 +65,6 @@ pub record Judging : Type 0 where
 
 abbrev pub judging : Reaction → List ℕ → Judging
 judging r out = record { reaction = r; output = out }
-
-abbrev pub judgingOf : GateStep → List ℕ → Judging
-judgingOf s out = judging (reactionOf s) out
 
 -- the answer, the next state, and store and output afterwards
 pub record Outcome : Type 0 where
@@ -88,15 +82,15 @@ outcomeOf s st out = with (reactionOf s) st out
 -- bytes, k how many of them are stored, c the running check, h the high byte of the check that came, st the store and out the
 -- output.
 
--- at rest the delimiter begins a telegram, and every other byte is skipped
+-- at rest the start byte begins a telegram, and every other byte is skipped
 unfoldable pub restOf : ℕ → Reaction
-restOf b = pick (eqb b delimiter) (to nothing AtDestination) (to nothing Rest)
+restOf b = pick (eqb b startByte) (to nothing AtDestination) (to nothing Rest)
 
--- the byte after the delimiter is the destination, whatever its value. It decides whether the telegram is ours, and is kept;
+-- the byte after the start byte is the destination, whatever its value. It decides whether the telegram is ours, and is kept;
 -- the running check begins with both bytes
 unfoldable pub destinationOf : ℕ → ℕ → Reaction
 destinationOf own b =
-    pick (eqb b own) (to nothing (AtSource b (ccittOver ccittStart (delimiter ∷ b ∷ [])))) (to nothing OthersSource)
+    pick (eqb b own) (to nothing (AtSource b (ccittOver ccittStart (startByte ∷ b ∷ [])))) (to nothing OthersSource)
 
 -- ours: the source
 unfoldable pub sourceOf : ℕ → ℕ → ℕ → Reaction
@@ -151,6 +145,10 @@ unfoldable pub eventOf : ℕ → GateState → List ℕ → GateEvent → List �
 eventOf own s st (Byte b) out = byteOf own s b st out
 eventOf own s st Timer out = with (startingAgain nothing) st out
 
+-- the most bytes left to drop: those of the largest length, and the two of the check
+abbrev pub mostLeft : ℕ
+mostLeft = 257
+
 -- a state that counts more than its telegram can have: a length over the most, more stored than the length, or more left to
 -- drop than the longest telegram of another has
 unfoldable pub overcounts : GateState → Bool
@@ -162,7 +160,7 @@ overcounts (AtData d s n k c) = ltb maxData n || ltb n k
 overcounts (AtLowCheck d s n c h) = ltb maxData n
 overcounts OthersSource = false
 overcounts OthersLength = false
-overcounts (Dropping left) = ltb 257 left
+overcounts (Dropping left) = ltb mostLeft left
 
 -- one event: 1 for a store that does not have as many places as there can be data bytes, or a state that overcounts, and all
 -- stays; then 16 where our own address is FF; then the event

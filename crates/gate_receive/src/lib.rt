@@ -1,21 +1,22 @@
 // The receiver of the gate bus, fed one event at a time.
 use crc16::ccitt;
 use gate_refusal::GateRefusal;
-use gate_telegram::DELIMITER;
 use gate_telegram::MAX_DATA;
 use gate_telegram::RESERVED;
+use gate_telegram::START_BYTE;
 ghost use mathlib.Core.Path.{_≡_};
 ghost use mathlib.Core.Bool.{false};
 ghost use Prim.Native.Nat.{_≤_};
 ghost use lib.ListN.{length};
-ghost use Rattle.gate_receive.specs.Receive.{reactionOf, responseOf, overcounts, startingAgain, outcomeOf, storingOf, judgingOf, to, nothing, refuses, restOf, destinationOf, sourceOf, lengthOf, dataOf, othersLengthOf, droppingOf, acceptedOf, judgedOf, byteOf, eventOf, receiveOf};
+ghost use Rattle.gate_receive.specs.Receive.{reactionOf, responseOf, overcounts, startingAgain, outcomeOf, to, nothing, refuses, restOf, destinationOf, sourceOf, lengthOf, dataOf, othersLengthOf, droppingOf, acceptedOf, judgedOf, byteOf, eventOf, receiveOf};
+ghost use Rattle.gate_receive.specs.Private.Steps.{storingOf, judgingOf};
 ghost use Rattle.gate_receive.specs.declared.GateState.the-variants.{Rest};
 
 // Where a telegram stands: what is awaited next, and what is known so far. The check is the running one.
 pub enum GateState {
     // No telegram has begun.
     Rest,
-    // The delimiter came; the destination is awaited.
+    // The start byte came; the destination is awaited.
     AtDestination,
     // For us: the source is awaited.
     AtSource {
@@ -107,20 +108,20 @@ fn start_again(answer: GateAnswer) -> GateStep
 fn rest_byte(b: u8) -> GateStep
     ensures { λ r. ⌜ reactionOf r ≡ restOf b ⌝ }
 {
-    if b == DELIMITER {
+    if b == START_BYTE {
         return go_on(GateState::AtDestination);
     }
     go_on(GateState::Rest)
 }
 
-// The byte after the delimiter.
+// The byte after the start byte.
 fn destination_byte(own: u8, b: u8) -> GateStep
     ensures { λ r. ⌜ reactionOf r ≡ destinationOf own b ⌝ }
 {
     if b == own {
         return go_on(GateState::AtSource {
             destination: b,
-            check: ccitt::over(ccitt::START, &[DELIMITER, b]),
+            check: ccitt::over(ccitt::START, &[START_BYTE, b]),
         });
     }
     go_on(GateState::OthersSource)
@@ -204,7 +205,7 @@ fn low_check_byte(
     requires { ⌜ size ≤ length (now store) ⌝ }
     ensures { λ r. ⌜ judgingOf r (now (out .exit)) ≡ judgedOf destination source size check high b (now (store .entry)) (now (out .entry)) ⌝ }
 {
-    if high as u16 * 256 + b as u16 != check {
+    if words::word_of(high, b) != check {
         return start_again(GateAnswer::Refused(GateRefusal::Check));
     }
     if source == RESERVED {
@@ -320,9 +321,9 @@ fn refuse(state: GateState) -> GateStep
 // One event: its answer and the state after it. It writes at most the place of the store at the count; the output has the
 // data of an accepted telegram in its first places, and is else as it was.
 // Refused with 1, and all as it was: a store that does not have MAX_DATA places, or a state that counts more than its
-// telegram can have. Every other refusal starts again: 16 at every event where own is FF; 7 for a length byte over MAX_DATA;
-// at the last byte of a telegram 15 for its check, then 16 for the source FF or a token to or from a slave, then 11 for an
-// output that is too short.
+// telegram can have. Every other refusal starts again: 16 at every event where own is FF; in a telegram for us 7 for a length
+// byte over MAX_DATA, and at its last byte 15 for its check, then 16 for the source FF or a token to or from a slave, then 11
+// for an output that is too short.
 pub fn receive(
     own: u8,
     state: GateState,

@@ -7,12 +7,12 @@ use lib.Dec.{eqb, ltb}
 use lib.ListN.{length}
 use Rattle.base.specs.Choice.{pick}
 use Rattle.base.specs.Filling.{Filling, denied, fitted}
-use Rattle.base.specs.Words.{highByte, lowByte}
+use Rattle.base.specs.Words.{bytesOf}
 use Rattle.crc16.specs.Ccitt.{ccittStart, ccittOver}
 
 -- the first byte of every telegram
-abbrev pub delimiter : ℕ
-delimiter = 0x55
+abbrev pub startByte : ℕ
+startByte = 0x55
 
 -- the address that nobody has
 abbrev pub reserved : ℕ
@@ -32,16 +32,16 @@ maxData = 253
 unfoldable pub slaveToken : ℕ → ℕ → ℕ → Bool
 slaveToken d s n = eqb n 0 && (ltb lastMaster d || ltb lastMaster s)
 
--- what the check is taken over: delimiter, destination, source, number of data bytes, data
+-- what the check is taken over: start byte, destination, source, number of data bytes, data
 unfoldable pub checked : ℕ → ℕ → List ℕ → List ℕ
-checked d s bs = delimiter ∷ d ∷ s ∷ length bs ∷ bs
+checked d s bs = startByte ∷ d ∷ s ∷ length bs ∷ bs
 
 unfoldable pub checkOf : ℕ → ℕ → List ℕ → ℕ
 checkOf d s bs = ccittOver ccittStart (checked d s bs)
 
--- the telegram: all that, then the check, high byte first
+-- the telegram: all that, then the check as a two-byte number, high byte first
 unfoldable pub telegramOf : ℕ → ℕ → List ℕ → List ℕ
-telegramOf d s bs = checked d s bs ++ (highByte (checkOf d s bs) ∷ lowByte (checkOf d s bs) ∷ [])
+telegramOf d s bs = checked d s bs ++ bytesOf (checkOf d s bs ∷ [])
 
 -- the addresses that a telegram cannot be written for: FF as either, or those of a token to or from a slave
 unfoldable pub badAddresses : ℕ → ℕ → ℕ → Bool

@@ -10,13 +10,13 @@ ghost use Rattle.gate_refusal.specs.Writing.{fillingOf};
 ghost use Rattle.gate_telegram.specs.Telegram.{slaveToken, telegramOf, telegramWriting};
 
 // The first byte of every telegram.
-pub const DELIMITER: u8 = 0x55;
+pub const START_BYTE: u8 = 0x55;
 
 // The address that nobody has.
 pub const RESERVED: u8 = 0xFF;
 
 // The last address of a master; those above it are slaves.
-pub const LAST_MASTER: u8 = 0x0F;
+const LAST_MASTER: u8 = 0x0F;
 
 // The most bytes of data in one telegram.
 pub const MAX_DATA: usize = 253;
@@ -40,12 +40,11 @@ fn write_telegram(destination: u8, source: u8, src: &[u8], out: &mut [u8]) -> Ga
     ensures { λ r. ⌜ fillingOf r (now (out .exit)) ≡ written (telegramOf destination source (now (src .entry))) (now (out .entry)) ⌝ }
 {
     let n = src.len();
-    let head = [DELIMITER, destination, source, n as u8];
+    let head = [START_BYTE, destination, source, n as u8];
     let check = ccitt::over(ccitt::over(ccitt::START, &head), src);
     places::put(&head, &mut *out, 0);
     places::put(src, &mut *out, 4);
-    out[n + 4] = (check / 256) as u8;
-    out[n + 5] = (check % 256) as u8;
+    words::put_words(&[check], &mut *out, n + 4);
     GateWritten::Written(n + 6)
 }
 

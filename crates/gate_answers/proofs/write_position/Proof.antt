@@ -8,16 +8,22 @@ use borrow.Author.Tests.{not-true, not-false}
 use mir.Facts.{toZ-ofZ}
 use Rattle.signed.specs.Signed.{top8, bitsOf}
 use Rattle.gate_answers.specs.Answers.{isPosition}
+use Rattle.gate_answers.proofs.Positions.{widens, widened}
 use Rattle.gate_answers.proofs.Writing.{position-none, position-short, position-room}
 use Rattle.gate_answers.proofs.write_position.Statement.{statement}
 use Rattle.gate_answers.proofs.write_position.Tie as tie
 
 -- the test of the number
 tested : (c : tie.After-is-position) → isPosition (c .before .before .args .z) ≡ c .is-position .result
-tested c = ap isPosition (sym (toZ-ofZ (c .before .before .fits .z))) ∙ sym (c .is-position .ensures)
+tested c =
+    let fits = c .before .before .fits .z in
+    ap isPosition (sym (widened _ fits ∙ toZ-ofZ fits)) ∙ sym (c .is-position .ensures)
 
 good : (c : tie.Else1) → isPosition (c .before .before .before .args .z) ≡ true
 good c = tested (c .before) ∙ not-false (c .before .is-position .result) (c .if1 .left)
+
+cast-is-position : tie.Need-cast-is-position
+cast-is-position c = widens _ (c .before .fits .z)
 
 is-position-requires : tie.Need-is-position-requires
 is-position-requires c κs = search needs
@@ -55,6 +61,7 @@ pub write-position-spec : {M : Type 1} → statement M
 write-position-spec =
     tie.close
     (tie.spec
+    cast-is-position
     is-position-requires
     returns
     returns-2

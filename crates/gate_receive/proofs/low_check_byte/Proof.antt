@@ -1,28 +1,34 @@
 -- `low_check_byte`: the check, the source, the token, and then what is accepted.
 -- Assumes nothing.
-use mathlib.Core.Path.{sym, _∙_}
+use mathlib.Core.Path.{_≡_, sym, _∙_}
+use Rattle.base.specs.Words.{word}
 use Rattle.gate_receive.proofs.Rows.{wrong-check, bad-source, slave-token, right-check}
 use borrow.Author.Needs.{needs}
 use Rattle.gate_receive.proofs.low_check_byte.Statement.{statement}
 use Rattle.gate_receive.proofs.low_check_byte.Tie as tie
 
-mul-if1 : tie.Need-mul-if1
-mul-if1 c = search needs
-
-add-if1 : tie.Need-add-if1
-add-if1 c = search needs
+word-of-requires : tie.Need-word-of-requires
+word-of-requires c κs = search needs
 
 start-again-requires : tie.Need-start-again-requires
 start-again-requires c κs = search needs
 
 returns : tie.Need-returns
-returns c = rw (c .start-again .ensures) (sym (wrong-check _ _ _ _ _ _ _ _ (c .before .if1 .taken)))
+returns c =
+    let test = c .before in
+    rw (c .start-again .ensures)
+    (sym (wrong-check _ _ _ _ _ _ _ _ (λ e. test .if1 .taken (test .before .word-of .ensures ∙ e))))
+
+-- the check that came is the running one
+right : (c : tie.Else1) → word (c .before .before .before .before .args .high) (c .before .before .before .before .args .b) ≡ c .before .before .before .before .args .check
+right c = sym (c .before .word-of .ensures) ∙ c .if1 .left
 
 start-again-requires-2 : tie.Need-start-again-requires-2
 start-again-requires-2 c κs = search needs
 
 returns-2 : tie.Need-returns-2
-returns-2 c = rw (c .start-again2 .ensures) (sym (bad-source _ _ _ _ _ _ _ _ (c .before .before .if1 .left) (c .before .if2 .taken)))
+returns-2 c =
+    rw (c .start-again2 .ensures) (sym (bad-source _ _ _ _ _ _ _ _ (right (c .before .before)) (c .before .if2 .taken)))
 
 is-slave-token-requires : tie.Need-is-slave-token-requires
 is-slave-token-requires c κs = search needs
@@ -35,7 +41,7 @@ returns-3 c =
     let token = c .before in
     let test = token .before .before in
     let is = sym (token .before .is-slave-token .ensures) ∙ token .if3 .taken in
-    rw (c .start-again3 .ensures) (sym (slave-token _ _ _ _ _ _ _ _ (test .before .if1 .left) (test .if2 .left) is))
+    rw (c .start-again3 .ensures) (sym (slave-token _ _ _ _ _ _ _ _ (right (test .before)) (test .if2 .left) is))
 
 accept-requires : tie.Need-accept-requires
 accept-requires c κs = search needs
@@ -48,14 +54,13 @@ returns-4 c =
     let token = c .before .before .before .before in
     let test = token .before .before in
     let is = sym (token .before .is-slave-token .ensures) ∙ token .if3 .left in
-    c .before .before .accept .ensures ∙ sym (right-check _ _ _ _ _ _ _ _ (test .before .if1 .left) (test .if2 .left) is)
+    c .before .before .accept .ensures ∙ sym (right-check _ _ _ _ _ _ _ _ (right (test .before)) (test .if2 .left) is)
 
 pub low-check-byte-spec : {M : Type 1} → statement M
 low-check-byte-spec =
     tie.close
     (tie.spec
-    mul-if1
-    add-if1
+    word-of-requires
     start-again-requires
     returns
     start-again-requires-2

@@ -1,7 +1,7 @@
--- `rest_byte`: the delimiter, or another byte.
+-- `rest_byte`: the start byte, or another byte.
 -- Assumes nothing.
 use mathlib.Core.Path.{sym, _∙_}
-use Rattle.gate_receive.proofs.Rows.{rest-delimiter, rest-other}
+use Rattle.gate_receive.proofs.Rows.{rest-start, rest-other}
 use borrow.Author.Needs.{needs}
 use Rattle.gate_receive.proofs.rest_byte.Statement.{statement}
 use Rattle.gate_receive.proofs.rest_byte.Tie as tie
@@ -10,7 +10,7 @@ go-on-requires : tie.Need-go-on-requires
 go-on-requires c κs = search needs
 
 returns : tie.Need-returns
-returns c = c .go-on .ensures ∙ sym (rest-delimiter _ (c .before .if1 .taken))
+returns c = c .go-on .ensures ∙ sym (rest-start _ (c .before .if1 .taken))
 
 go-on-requires-2 : tie.Need-go-on-requires-2
 go-on-requires-2 c κs = search needs
