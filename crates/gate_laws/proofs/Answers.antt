@@ -10,6 +10,7 @@ use lib.Dec.{eqb}
 use lib.IntN.{ℤ, pos, negsuc}
 use lib.ListN.{length, getD}
 use Rattle.base.specs.Choice.{pick}
+use Rattle.base.proofs.Choice.{pick-by}
 use Rattle.base.specs.Filling.{fitted}
 use Rattle.signed.specs.Signed.{top8, top32, bitsOf, signedOf, fourBytes, ofFour}
 use Rattle.signed.specs.Inverse.{FitsTop}
@@ -17,7 +18,8 @@ use Rattle.signed.proofs.Inverse.{signed-bits, bits-signed, bits-bound, four-ba
 use Rattle.gate_answers.specs.Answers.{ack, nak, busy, syn, count, position, isPosition, answerBytes, isAnswer, answerWriting, Reading, reads, refuses, sized, positionAt, kindReading, answerReading}
 use Rattle.gate_answers.specs.declared.BarrierAnswer.{BarrierAnswer}
 use Rattle.gate_answers.specs.declared.BarrierAnswer.the-variants.{Ack, Nak, Busy, Syn, Count, Position}
-use Rattle.gate_laws.specs.Answers.{InWidth, AnswerReadsBack, Bytes, none, more, AnswerWritesBack}
+use Rattle.gate_laws.specs.Bytes.{Bytes, none, more}
+use Rattle.gate_laws.specs.Answers.{InWidth, AnswerReadsBack, AnswerWritesBack}
 use Rattle.gate_laws.proofs.Written.{passed-else, fitted-fills}
 
 -- a position fits one byte
@@ -72,11 +74,6 @@ not-read k a e = let z : _≡_ {A = ℕ} 0 1 = cc in omega arith
 same-read : (a b : BarrierAnswer) → reads a ≡ reads b → a ≡ b
 same-read a b e = cc
 
--- what holds of each value of a choice where its test is so
-pick-cases : {A : Type 0} (P : A → Type 0) (t : Bool) {a b : A} → (t ≡ true → P a) → (t ≡ false → P b) → P (pick t a b)
-pick-cases P true p q = p refl
-pick-cases P false p q = q refl
-
 module _ (bs : List ℕ) where
   -- an answer that has these bytes
   record Has (a : BarrierAnswer) : Type 0 where
@@ -94,7 +91,7 @@ module _ (bs : List ℕ) where
   reading a is good b e = subst Has (same-read a b e) (record { is = is; good = good })
 
   long : (n : ℕ) {r : Reading} → (length bs ≡ n → Means r) → Means (sized n bs r)
-  long n m = pick-cases Means (eqb (length bs) n) (λ e. m (eqb-true (length bs) n e)) (λ e. refusing 7)
+  long n m = pick-by Means (eqb (length bs) n) (λ e. m (eqb-true (length bs) n e)) (λ e. refusing 7)
 
 -- a kind, and the bytes behind it
 module _ (b : ℕ) {bs : List ℕ} (bytes : Bytes bs) where
@@ -115,7 +112,7 @@ module _ (b : ℕ) {bs : List ℕ} (bytes : Bytes bs) where
   position-means is =
       long (b ∷ bs) 2
       (λ n.
-      pick-cases (Means (b ∷ bs)) (isPosition (signedOf top8 (getD bs 0 0)))
+      pick-by (Means (b ∷ bs)) (isPosition (signedOf top8 (getD bs 0 0)))
       (reading (b ∷ bs) (Position _) (behind position is (one-signed bytes (omega arith))))
       (λ none. refusing (b ∷ bs) 10))
 
@@ -123,12 +120,12 @@ module _ (b : ℕ) {bs : List ℕ} (bytes : Bytes bs) where
   unfolding kindReading answerBytes isAnswer
   kind-means =
       let M = Means (b ∷ bs) in
-      pick-cases M (eqb b ack) (alone-means ack Ack refl refl)
-      (λ _. pick-cases M (eqb b nak) (alone-means nak Nak refl refl)
-      (λ _. pick-cases M (eqb b busy) (alone-means busy Busy refl refl)
-      (λ _. pick-cases M (eqb b syn) (alone-means syn Syn refl refl)
-      (λ _. pick-cases M (eqb b count) count-means
-      (λ _. pick-cases M (eqb b position) position-means (λ _. refusing (b ∷ bs) 3))))))
+      pick-by M (eqb b ack) (alone-means ack Ack refl refl)
+      (λ _. pick-by M (eqb b nak) (alone-means nak Nak refl refl)
+      (λ _. pick-by M (eqb b busy) (alone-means busy Busy refl refl)
+      (λ _. pick-by M (eqb b syn) (alone-means syn Syn refl refl)
+      (λ _. pick-by M (eqb b count) count-means
+      (λ _. pick-by M (eqb b position) position-means (λ _. refusing (b ∷ bs) 3))))))
 
 means : {bs : List ℕ} → Bytes bs → Means bs (answerReading bs)
 unfolding answerReading

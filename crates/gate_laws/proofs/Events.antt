@@ -12,7 +12,7 @@ use Rattle.base.specs.Choice.{pick}
 use Rattle.base.specs.Places.{placed}
 use Rattle.base.specs.Words.{word}
 use Rattle.base.proofs.Choice.{pick-either}
-use Rattle.gate_telegram.specs.Telegram.{delimiter, reserved, maxData, slaveToken}
+use Rattle.gate_telegram.specs.Telegram.{startByte, reserved, maxData, slaveToken}
 use Rattle.gate_receive.specs.Receive.{Response, nothing, telegram, token, refuses, Reaction, Outcome, Storing, Judging, to, startingAgain, with, restOf, destinationOf, sourceOf, lengthOf, dataOf, acceptedOf, judgedOf, othersLengthOf, droppingOf, byteOf, eventOf, overcounts, receiveOf}
 use Rattle.gate_receive.specs.declared.GateEvent.{GateEvent}
 use Rattle.gate_receive.specs.declared.GateEvent.the-variants.{Byte, Timer}
@@ -105,7 +105,7 @@ module _ (st out : List ℕ) where
 
   byte-lawful : (own : ℕ) (s : GateState) (b : ℕ) → Lawful s st out (byteOf own s b st out)
   unfolding byteOf restOf destinationOf sourceOf lengthOf othersLengthOf droppingOf
-  byte-lawful own Rest b = goes-either Rest st out (eqb b delimiter) _ _
+  byte-lawful own Rest b = goes-either Rest st out (eqb b startByte) _ _
   byte-lawful own AtDestination b = goes-either AtDestination st out (eqb b own) _ _
   byte-lawful own (AtSource d c) b = goes-on (AtSource d c) st out _
   byte-lawful own (AtLength d s c) b =

@@ -10,13 +10,13 @@ use Rattle.base.specs.Words.{highByte, lowByte}
 use Rattle.base.proofs.Words.{word-bytes}
 use Rattle.crc16.specs.Check.{runOver}
 use Rattle.crc16.specs.Ccitt.{ccittStart, ccittByte, ccittOver}
-use Rattle.gate_telegram.specs.Telegram.{delimiter, reserved, maxData, slaveToken}
+use Rattle.gate_telegram.specs.Telegram.{startByte, reserved, maxData, slaveToken}
 use Rattle.gate_telegram.proofs.Telegrams.{opening}
 use Rattle.gate_receive.specs.Receive.{Response, Reaction, Outcome, Storing, Judging, nothing, to, startingAgain, with, judging, sourceOf, othersLengthOf, acceptedOf, byteOf, overcounts}
 use Rattle.gate_receive.specs.declared.GateState.{GateState}
 use Rattle.gate_receive.specs.declared.GateState.the-variants.{Rest, AtDestination, AtSource, AtLength, AtData, AtLowCheck, OthersSource, OthersLength, Dropping}
 use Rattle.gate_receive.proofs.Bounds.{receive-byte, data-within, low-check-within, dropping-within}
-use Rattle.gate_receive.proofs.Rows.{rest-delimiter, rest-other, destination-own, destination-other, length-good, data-stored, data-high-check, right-check, last-dropped, one-dropped}
+use Rattle.gate_receive.proofs.Rows.{rest-start, rest-other, destination-own, destination-other, length-good, data-stored, data-high-check, right-check, last-dropped, one-dropped}
 use Rattle.gate_laws.specs.Feeding.{Fed, after, feed}
 
 pub fed-none : (own : ℕ) (s : GateState) (st out : List ℕ) →
@@ -30,7 +30,7 @@ before r e = ap (after (r ∷ [])) e
 
 -- the check over what stands before the data, as the receiver takes it
 check-opening : (d s n : ℕ) →
-    ccittByte (ccittByte (ccittOver ccittStart (delimiter ∷ d ∷ [])) s) n ≡ ccittOver ccittStart (opening d s n)
+    ccittByte (ccittByte (ccittOver ccittStart (startByte ∷ d ∷ [])) s) n ≡ ccittOver ccittStart (opening d s n)
 unfolding ccittOver runOver
 check-opening d s n = refl
 
@@ -48,19 +48,19 @@ module _ (own : ℕ) (st out : List ℕ) (long : length st ≡ maxData) (had : o
       r ≡ to nothing next → feed own s st out (b ∷ bs) ≡ after (nothing ∷ []) (feed own next st out bs)
   passed s next b bs k e f = fed s b bs k (e ∙ ap (λ (r : Reaction). with r st out) f)
 
-  pub fed-other : (b : ℕ) (bs : List ℕ) → (b ≡ delimiter → ⊥) →
+  pub fed-other : (b : ℕ) (bs : List ℕ) → (b ≡ startByte → ⊥) →
       feed own Rest st out (b ∷ bs) ≡ after (nothing ∷ []) (feed own Rest st out bs)
   unfolding byteOf overcounts
   fed-other b bs h = passed Rest Rest b bs refl refl (rest-other b h)
 
-  fed-delimiter : (bs : List ℕ) → feed own Rest st out (delimiter ∷ bs) ≡ after (nothing ∷ []) (feed own AtDestination st out bs)
+  fed-startByte : (bs : List ℕ) → feed own Rest st out (startByte ∷ bs) ≡ after (nothing ∷ []) (feed own AtDestination st out bs)
   unfolding byteOf overcounts
-  fed-delimiter bs = passed Rest AtDestination delimiter bs refl refl (rest-delimiter delimiter refl)
+  fed-startByte bs = passed Rest AtDestination startByte bs refl refl (rest-start startByte refl)
 
   -- what stands before the data, where the telegram is ours
   module _ (bs : List ℕ) where
     fed-own : feed own AtDestination st out (own ∷ bs)
-        ≡ after (nothing ∷ []) (feed own (AtSource own (ccittOver ccittStart (delimiter ∷ own ∷ []))) st out bs)
+        ≡ after (nothing ∷ []) (feed own (AtSource own (ccittOver ccittStart (startByte ∷ own ∷ []))) st out bs)
     unfolding byteOf overcounts
     fed-own = passed AtDestination _ own bs refl refl (destination-own own own refl)
 
@@ -75,10 +75,10 @@ module _ (own : ℕ) (st out : List ℕ) (long : length st ≡ maxData) (had : o
     fed-length s c n h = passed (AtLength own s c) _ n bs refl refl (length-good own s c n h)
 
   pub fed-opening : (s n : ℕ) (bs : List ℕ) → n ≤ maxData →
-      feed own Rest st out (delimiter ∷ own ∷ s ∷ n ∷ bs)
+      feed own Rest st out (startByte ∷ own ∷ s ∷ n ∷ bs)
       ≡ after (nothing ∷ nothing ∷ nothing ∷ nothing ∷ []) (feed own (AtData own s n 0 (ccittOver ccittStart (opening own s n))) st out bs)
   fed-opening s n bs h =
-      fed-delimiter _
+      fed-startByte _
       ∙ before nothing
       (fed-own _
       ∙ before nothing
@@ -110,10 +110,10 @@ module _ (own : ℕ) (st out : List ℕ) (long : length st ≡ maxData) (had : o
     fed-last-dropped left h = passed (Dropping left) Rest b bs (dropping-within left (omega arith)) refl (last-dropped left h)
 
   pub fed-others-opening : (d s n : ℕ) (bs : List ℕ) → (d ≡ own → ⊥) →
-      feed own Rest st out (delimiter ∷ d ∷ s ∷ n ∷ bs)
+      feed own Rest st out (startByte ∷ d ∷ s ∷ n ∷ bs)
       ≡ after (nothing ∷ nothing ∷ nothing ∷ nothing ∷ []) (feed own (Dropping (n + 2)) st out bs)
   fed-others-opening d s n bs h =
-      fed-delimiter _
+      fed-startByte _
       ∙ before nothing (fed-others d _ h ∙ before nothing (fed-others-source s _ ∙ before nothing (fed-others-length n bs)))
 
   -- the data and the check

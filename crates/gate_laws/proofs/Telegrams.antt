@@ -6,8 +6,8 @@ use Prim.Native.Nat.{ℕ, zero, suc, _+_, _-_, _≤_}
 use native.Mathlib.Nat.{add-zero, add-suc, suc-add, zero-add}
 use native.Mathlib.Numerals.{add-one}
 use native.Mathlib.Omega.{arith}
-use lib.ListN.{length, set, length-append, length-set, replicate, replicate-append-replicate}
-use lib.Seq.{sets}
+use lib.ListN.{length, set, take, length-append, length-set, replicate, replicate-append-replicate}
+use lib.Seq.{sets, length-take-le}
 use Rattle.base.specs.Places.{placed}
 use Rattle.base.specs.Words.{highByte}
 use Rattle.base.proofs.Places.{sets-placed, take-placed, length-placed}
@@ -18,10 +18,8 @@ use Rattle.gate_telegram.proofs.Telegrams.{opening, closing, telegram-bytes, ch
 use Rattle.gate_receive.specs.Receive.{Response, nothing, startingAgain, judging, acceptedOf}
 use Rattle.gate_receive.specs.declared.GateState.the-variants.{Rest, AtData, Dropping}
 use Rattle.gate_receive.proofs.Rows.{accepted-token, accepted-data}
-use Rattle.gate_commands.specs.Commands.{commandOf}
-use Rattle.gate_commands.proofs.Safety.{command-is-carried-out}
 use Rattle.gate_laws.specs.Feeding.{Fed, after, feed}
-use Rattle.gate_laws.specs.Telegrams.{acceptance, accepted, WrittenIsReceived, Passed, none, skipped, others, PassedOver, ReceivedBehind, CommandArrives}
+use Rattle.gate_laws.specs.Telegrams.{acceptance, accepted, WrittenIsReceived, Passed, none, skipped, others, PassedOver, ReceivedBehind}
 use Rattle.gate_laws.proofs.Feeding.{fed-none, before, fed-other, fed-opening, fed-others-opening, fed-dropped, fed-last-dropped, fed-data, fed-high-check, fed-low-check}
 use Rattle.gate_laws.proofs.Written.{Sound, wrote}
 
@@ -41,11 +39,12 @@ unfolding placed
 placed-none l = refl
 
 -- what is accepted is the data in the first places of the store
-accepts : (s : ℕ) (bs st out : List ℕ) → length bs ≤ length out →
-    acceptedOf s (length bs) (placed bs st) out ≡ judging (startingAgain (acceptance s bs)) (placed bs out)
-accepts s [] st out h = rw (placed-none out) (accepted-token s 0 _ out refl)
-accepts s (b ∷ bs) st out h =
-    accepted-data s (length (b ∷ bs)) (placed (b ∷ bs) st) out (λ e. omega arith) h ∙ rw (take-placed (b ∷ bs) st)
+pub accepts : (s n : ℕ) (st out : List ℕ) → n ≤ length st → n ≤ length out →
+    acceptedOf s n st out ≡ judging (startingAgain (acceptance s (take n st))) (placed (take n st) out)
+accepts s zero st out h room = rw (placed-none out) (accepted-token s 0 st out refl)
+accepts s (suc n) [] out h room = absurd (omega arith)
+accepts s (suc n) (b ∷ st) out h room =
+    accepted-data s (suc n) (b ∷ st) out (λ e. omega arith) room ∙ rw (length-take-le n st (omega arith))
 
 -- one more of the same
 one-more : (n : ℕ) (rs : List Response) → replicate n nothing ++ (nothing ∷ rs) ≡ nothing ∷ (replicate n nothing ++ rs)
@@ -65,7 +64,7 @@ module _ (d s : ℕ) (bs st out : List ℕ) (good : Sound d s (length bs)) (long
       fed-high-check d (placed bs st) out same (good .destination) d s (length bs) c _ (good .fits) (highByte c)
       ∙ before nothing
       (fed-low-check d (placed bs st) out same (good .destination) d s (length bs) c [] (good .fits) (good .source) (good .token)
-      (acceptance s bs) (placed bs out) (accepts s bs st out room)
+      (acceptance s bs) (placed bs out) (rw take-placed at (accepts s (length bs) (placed bs st) out (omega arith) room))
       ∙ before (acceptance s bs) (fed-none _ _ _ _))
 
   -- the data and its check
@@ -122,8 +121,3 @@ pub received-behind : ReceivedBehind
 received-behind d s n front bs buf st out p e long room =
     passed-over d front _ st out (wrote d s n bs buf e .sound .destination) long p
     ∙ ap (after (replicate (length front) nothing)) (written-is-received d s n bs buf st out e long room)
-
-pub command-arrives : CommandArrives
-command-arrives d s c f n buf st out r e long room =
-    rw (written-is-received d s n (commandOf c f) buf st out e long room, take-placed (commandOf c f) out)
-    (command-is-carried-out r c f)
