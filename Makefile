@@ -1,5 +1,5 @@
 # The commands of the README.
-.PHONY: play frame listen station reply test staticlib bench soak
+.PHONY: play frame listen station reply bus test staticlib bench soak
 
 # A telegram to play, data to frame, and bytes to feed to a receiving half, in hex.
 TELEGRAM = 60 FF 12 13 55 00 03 BB 01 01 2C 01 00 01
@@ -19,7 +19,9 @@ station_takes = OWN TELEGRAM
 station_needs = OWN TELEGRAM
 reply_takes = TELEGRAM
 reply_needs = TELEGRAM
-played := $(firstword $(filter play frame listen station reply,$(MAKECMDGOALS)))
+bus_takes = OWN BYTES
+bus_needs = OWN BYTES
+played := $(firstword $(filter play frame listen station reply bus,$(MAKECMDGOALS)))
 ifdef played
 given := $(foreach word,$(MAKEOVERRIDES),$(if $(findstring =,$(word)),$(firstword $(subst =, ,$(word)))))
 ifneq ($(words $(MAKECMDGOALS)),1)
@@ -53,6 +55,10 @@ station: target/bin/telegram
 reply: target/bin/telegram
 	@target/bin/telegram reply "$$TELEGRAM"
 
+# Feeds BYTES to the receiver of the address OWN on the gate bus. The timer runs out at each comma between them.
+bus: target/bin/telegram
+	@target/bin/telegram bus "$$OWN" "$$BYTES"
+
 # The programs are proved and built when anything below crates has changed since they were built.
 target/bin/dry_run target/bin/run_cases: crates.txt $(shell find crates)
 	@printf 'Proving what is played (a minute or two from a fresh clone) ..\n'
@@ -70,7 +76,7 @@ test:
 	@sh scripts/test
 
 # The library for C and Rust: the crates whose functions it has, and its archive. A group that is added names its c_ crate here.
-LIBRARY = c_link c_mop c_net
+LIBRARY = c_link c_mop c_net c_gate
 ARCHIVE = target/staticlib/libhanraquin.a
 
 # Proves and builds the library, unless nothing has changed since it was built. The folders are in the list for files that go.

@@ -23,15 +23,18 @@ number-bound OutputShort = (omega arith, omega arith)
 number-bound TooLong = (omega arith, omega arith)
 
 -- by the number
-above-values : (n value : ℕ) → 1 ≤ n → value < kinds → refused n ≡ done value → ⊥
+pub above-values : (n value : ℕ) → 1 ≤ n → value < kinds → refused n ≡ done value → ⊥
 above-values n value some small e = omega arith
 
-below-not-mine : (n : ℕ) → n ≤ 12 → refused n ≡ notMine → ⊥
+pub below-not-mine : (n : ℕ) → n < 255 → refused n ≡ notMine → ⊥
 below-not-mine n most e = omega arith
+
+below-255 : (n : ℕ) → n ≤ 12 → n < 255
+below-255 n most = omega arith
 
 pub refusals-differ : RefusalsDiffer
 refusals-differ = record {
   number = number-bound;
   from-done = λ r value small. above-values (numberOf r) value (number-bound r .0) small;
-  from-not-mine = λ r. below-not-mine (numberOf r) (number-bound r .1);
+  from-not-mine = λ r. below-not-mine (numberOf r) (below-255 _ (number-bound r .1));
 }

@@ -24,7 +24,7 @@ notMine = 255 * kinds
 abbrev pub refused : ℕ → ℕ
 refused number = number * kinds
 
--- the number of a refusal is 1 to 12, and so a refusal is neither "done", whose value is below 2^32, nor "not mine"
+-- the number of a `Refusal` is 1 to 12, and so it is neither "done", whose value is below 2^32, nor "not mine"
 pub record RefusalsDiffer : Type 0 where
   pub number : (r : Refusal) → (1 ≤ numberOf r) × (numberOf r ≤ 12)
   pub from-done : (r : Refusal) (value : ℕ) → value < kinds → refused (numberOf r) ≡ done value → ⊥

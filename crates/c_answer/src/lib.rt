@@ -13,11 +13,18 @@ pub const KINDS: u64 = 4294967296;
 // The answer "not mine".
 pub const NOT_MINE: u64 = 255 * KINDS;
 
+// The answer of a call that is refused with a number.
+pub fn refused_with(number: u8) -> u64
+    ensures { λ r. ⌜ r ≡ refused number ⌝ }
+{
+    number as u64 * KINDS
+}
+
 // The answer of a refused call.
 pub fn refused(refusal: Refusal) -> u64
     ensures { λ r. ⌜ r ≡ refused (numberOf refusal) ⌝ }
 {
-    refusal.number() as u64 * KINDS
+    refused_with(refusal.number())
 }
 
 // The answer of a call that writes.
