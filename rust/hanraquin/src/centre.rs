@@ -1,6 +1,6 @@
 //! The centre, which writes requests and reads replies.
 
-use crate::answer::{IMPOSSIBLE, done, filled, taken};
+use crate::answer::{Numbered, taken, written};
 use crate::{Refusal, sys};
 
 /// The most stations of a route.
@@ -72,7 +72,7 @@ pub fn write_request<'a>(
             out.len(),
         )
     };
-    filled(out, done(answer)?)
+    written(out, answer)
 }
 
 /// The parts of a request. The default asks for nothing, and has no route.
@@ -260,14 +260,14 @@ pub fn read_reply(telegram: &[u8]) -> Result<Reply<'_>, Refusal> {
             run.len(),
         )
     };
-    let Some(length) = taken(answer)? else {
+    let Some(length) = taken::<Refusal>(answer)? else {
         return Ok(Reply::NotMine);
     };
     let [start, count, place] = run;
     let value_bytes = telegram
         .get(usize::from(place)..)
         .and_then(|rest| rest.get(..length as usize))
-        .ok_or(IMPOSSIBLE)?;
+        .ok_or(Refusal::IMPOSSIBLE)?;
     Ok(Reply::Accepted(Accepted {
         start,
         count: usize::from(count),

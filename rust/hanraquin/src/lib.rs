@@ -1,10 +1,12 @@
-//! Proved software for a radio net of register stations, and for the serial cables that lead to
-//! it: 3964R frames, MoP telegrams at a station and at the centre, and a dry run of a net.
+//! Proved software for a radio net of register stations, for the serial cables that lead to it, and
+//! for the bus of the gate barriers: 3964R frames, MoP telegrams at a station and at the centre, a
+//! dry run of a net, and the telegrams, commands and answers of barriers in the module [`gate`].
 //!
 //! The work is done by a static library that is written and proved in Rattle. This crate calls it,
 //! and gives its answers as Rust types. Every call takes any slices and numbers at all, and says in
-//! a [`Refusal`] what is wrong with them; none panics, allocates, or keeps anything from call to
-//! call. A telegram that is for somebody else is "not mine", which is no error.
+//! a [`Refusal`] what is wrong with them, or in a [`gate::Refusal`]; none panics, allocates, or
+//! keeps anything from call to call. A telegram that is for somebody else is no error: it is "not
+//! mine", and on the gate bus it is dropped.
 //!
 //! What is proved of the library, and what has to be trusted (this crate too), is told in
 //! `docs/ARCHITECTURE.md` of the repository, and the rules in `docs/protocol/`.
@@ -74,6 +76,33 @@
 //! # Ok::<(), hanraquin::Refusal>(())
 //! ```
 //!
+//! # The gate bus
+//!
+//! ```
+//! use hanraquin::gate::{self, read_answer, Answer, Received, Receiver};
+//! use hanraquin::Event;
+//!
+//! // Master 00 asks barrier 10 for its position.
+//! let mut out = [0; gate::TELEGRAM_MAX];
+//! let query = gate::write(0x10, 0x00, &[0x02, 0x18, 0x00], &mut out)?;
+//! # assert_eq!(query.len(), 9);
+//! # let mut answer = [0; gate::TELEGRAM_MAX];
+//! # let answer = gate::write(0x00, 0x10, &[0x1D, 0x64], &mut answer)?;
+//!
+//! // What comes back over the bus:
+//! let (mut receiver, mut out) = (Receiver::new(0x00), [0; gate::DATA_MAX]);
+//! for &mut byte in answer {
+//!     match receiver.event(Event::Byte(byte), &mut out)? {
+//!         Received::Nothing => {}
+//!         Received::Telegram { source, data } => {
+//!             assert_eq!((source, read_answer(data)?), (0x10, Answer::Position(100)));
+//!         }
+//!         Received::Token { source } => println!("the token, from {source:02X}"),
+//!     }
+//! }
+//! # Ok::<(), gate::Refusal>(())
+//! ```
+//!
 //! # Building
 //!
 //! `make staticlib` in the root of the repository proves the library and writes it to
@@ -90,6 +119,7 @@
 
 mod answer;
 mod centre;
+pub mod gate;
 mod link;
 mod net;
 mod refusal;

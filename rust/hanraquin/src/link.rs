@@ -1,6 +1,6 @@
 //! 3964R: the frame of a block of data, and the receiving half of a link.
 
-use crate::answer::{done, filled};
+use crate::answer::{done, filled, written};
 use crate::{Refusal, sys};
 
 /// Opens a block on the cable. It is sent before the frame, and is no part of it.
@@ -68,20 +68,31 @@ pub fn frame<'a>(data: &[u8], out: &'a mut [u8]) -> Result<&'a mut [u8], Refusal
     // SAFETY: pointers and lengths are those of slices, and `out` is borrowed mutably.
     let answer =
         unsafe { sys::hanraquin_frame(data.as_ptr(), data.len(), out.as_mut_ptr(), out.len()) };
-    filled(out, done(answer)?)
+    written(out, answer)
 }
 
-/// What a receiver is told.
+/// What a receiver is told, on a cable or on the [gate bus](crate::gate).
 ///
 /// ```
 /// let events = [0x02, 0x10, 0x03, 0x13].map(hanraquin::Event::Byte);
 /// ```
 #[derive(Clone, Copy, PartialEq, Eq, Hash, Debug)]
 pub enum Event {
-    /// A byte came over the cable.
+    /// A byte came over the cable or the bus.
     Byte(u8),
     /// The timer ran out.
     Timer,
+}
+
+impl Event {
+    /// The number that stands for it in the library.
+    #[inline]
+    pub(crate) const fn number(self) -> u32 {
+        match self {
+            Event::Byte(byte) => byte as u32,
+            Event::Timer => sys::TIMER,
+        }
+    }
 }
 
 /// What a receiver answers to an event.
@@ -183,16 +194,12 @@ impl Receiver {
     /// ```
     #[inline]
     pub fn event<'b>(&mut self, event: Event, buffer: &'b mut [u8]) -> Result<Answer<'b>, Refusal> {
-        let event = match event {
-            Event::Byte(byte) => u32::from(byte),
-            Event::Timer => sys::TIMER,
-        };
         // SAFETY: pointers and lengths are those of slices, and both are borrowed mutably.
         let answer = unsafe {
             sys::hanraquin_receive(
                 self.state.as_mut_ptr(),
                 self.state.len(),
-                event,
+                event.number(),
                 buffer.as_mut_ptr(),
                 buffer.len(),
             )
@@ -201,8 +208,8 @@ impl Receiver {
         if answer == 0 {
             return Ok(Answer::Nothing);
         }
-        match done(answer)? {
-            value @ sys::MESSAGE.. => Ok(Answer::Message(filled(buffer, value - sys::MESSAGE)?)),
+        match done::<Refusal>(answer)? {
+            value @ sys::MESSAGE.. => filled(buffer, value - sys::MESSAGE).map(Answer::Message),
             // SEND and a byte: the byte is the low one.
             value => Ok(Answer::Send(value as u8)),
         }

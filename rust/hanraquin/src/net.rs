@@ -111,7 +111,7 @@ pub fn dry_run<'a>(
             result.len(),
         )
     };
-    done(answer)?;
+    done::<Refusal>(answer)?;
     let [count, ending, length] = result;
     Ok(DryRun {
         count,
@@ -120,6 +120,6 @@ pub fn dry_run<'a>(
             sys::AT_NOBODY => Ending::AtNobody,
             number => Ending::Refused(refusal(number)),
         },
-        last: filled(out, length)?,
+        last: filled::<Refusal>(out, length)?,
     })
 }

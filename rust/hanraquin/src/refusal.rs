@@ -1,9 +1,10 @@
 //! The numbers that refused calls give back.
 
+use crate::answer::Numbered;
 use core::error::Error;
 use core::fmt;
 
-/// Why a call was refused.
+/// Why a call was refused. The gate bus has [refusals of its own](crate::gate::Refusal).
 ///
 /// A refused call has changed nothing that it was lent.
 ///
@@ -114,3 +115,12 @@ impl fmt::Display for Refusal {
 }
 
 impl Error for Refusal {}
+
+impl Numbered for Refusal {
+    const IMPOSSIBLE: Refusal = Refusal::Setup;
+
+    #[inline]
+    fn numbered(number: u8) -> Option<Refusal> {
+        Refusal::from_number(number)
+    }
+}

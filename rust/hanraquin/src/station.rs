@@ -170,8 +170,8 @@ pub fn handle<'a>(
             out.len(),
         )
     };
-    match taken(answer)? {
-        Some(length) => Ok(Handled::Sent(filled(out, length)?)),
+    match taken::<Refusal>(answer)? {
+        Some(length) => filled(out, length).map(Handled::Sent),
         None => Ok(Handled::NotMine),
     }
 }

@@ -1,4 +1,4 @@
-//! The proved library as it is: six functions over pointers and lengths, as `include/hanraquin.h`
+//! The proved library as it is: functions over pointers and lengths, as `include/hanraquin.h`
 //! declares them. Nothing checks the arguments of these declarations against the library.
 //!
 //! Every function gives 64 bits: a value in the low 32, and above it a kind of eight bits, which is
@@ -20,7 +20,8 @@ pub const DONE: u8 = 0;
 /// The kind of an answer: the telegram is for somebody else.
 pub const NOT_MINE: u8 = 255;
 
-/// The event of [`hanraquin_receive`] for a timer that ran out. A larger number is refused with 1.
+/// The event of [`hanraquin_receive`] and [`hanraquin_gate_receive`] for a timer that ran out. A
+/// larger number is refused with 1.
 pub const TIMER: u32 = 256;
 /// Added to a byte, the value of [`hanraquin_receive`] for "send this byte".
 pub const SEND: u32 = 256;
@@ -31,6 +32,25 @@ pub const MESSAGE: u32 = 65536;
 pub const AT_ZERO: u32 = 0;
 /// The ending of [`hanraquin_dry_run`] at an address that no station has.
 pub const AT_NOBODY: u32 = 1;
+
+/// Added to 256 times the source and to the number of data bytes, the value of
+/// [`hanraquin_gate_receive`] for a telegram with data.
+pub const GATE_TELEGRAM: u32 = 65536;
+/// Added to the source, the value of [`hanraquin_gate_receive`] for a token.
+pub const GATE_TOKEN: u32 = 131_072;
+
+/// The kind of a barrier's answer, and the value of [`hanraquin_gate_operate`], for ack.
+pub const GATE_ACK: u8 = 0x01;
+/// The kind of a barrier's answer, and the value of [`hanraquin_gate_operate`], for nak.
+pub const GATE_NAK: u8 = 0x02;
+/// The kind of a barrier's answer: busy.
+pub const GATE_BUSY: u8 = 0x03;
+/// The kind of a barrier's answer: syn.
+pub const GATE_SYN: u8 = 0x04;
+/// The kind of a barrier's answer: the vehicle count.
+pub const GATE_COUNT: u8 = 0x1C;
+/// The kind of a barrier's answer: the position.
+pub const GATE_POSITION: u8 = 0x1D;
 
 /// The kind of an answer.
 ///
@@ -266,5 +286,193 @@ unsafe extern "C" {
         out_len: usize,
         result: *mut u32,
         result_len: usize,
+    ) -> u64;
+
+    /// Writes a telegram of the gate bus: [`gate::write`](crate::gate::write()). The value is its
+    /// length.
+    ///
+    /// # Safety
+    ///
+    /// See [the module](self). `out` may be written.
+    ///
+    /// ```
+    /// use hanraquin::sys;
+    ///
+    /// let (data, mut out) = ([0x01, 0x01, 0x01], [0; 9]);
+    /// // SAFETY: two arrays with their own lengths.
+    /// let answer = unsafe {
+    ///     let (data, data_len) = (data.as_ptr(), data.len());
+    ///     sys::hanraquin_gate_write(0x10, 0x00, data, data_len, out.as_mut_ptr(), out.len())
+    /// };
+    /// assert_eq!((sys::kind(answer), sys::value(answer)), (sys::DONE, 9));
+    /// assert_eq!(out, [0x55, 0x10, 0x00, 0x03, 0x01, 0x01, 0x01, 0xF7, 0x86]);
+    /// ```
+    #[must_use]
+    pub fn hanraquin_gate_write(
+        destination: u8,
+        source: u8,
+        data: *const u8,
+        data_len: usize,
+        out: *mut u8,
+        out_len: usize,
+    ) -> u64;
+
+    /// Tells a receiver on the gate bus one event:
+    /// [`gate::Receiver::event`](crate::gate::Receiver::event).
+    ///
+    /// `state` has seven places, as [`gate::Receiver::state`](crate::gate::Receiver::state) says,
+    /// and `store` 253. `event` is a byte, 0 to 255, or [`TIMER`]. Other lengths, an event above
+    /// that, and a state that cannot be are refused with 1, and nothing is written. With any other
+    /// refusal all places of the state are set to 0. The value is 0 for nothing, [`GATE_TELEGRAM`]
+    /// with 256 times a source and a number of data bytes, or [`GATE_TOKEN`] and a source.
+    ///
+    /// # Safety
+    ///
+    /// See [the module](self). `state`, `store` and `out` may be written.
+    ///
+    /// ```
+    /// use hanraquin::sys;
+    ///
+    /// let (mut state, mut store, mut out) = ([0; 7], [0; 253], [0; 253]);
+    /// let mut last = 0;
+    /// for byte in [0x55, 0x10, 0x00, 0x03, 0x01, 0x01, 0x01, 0xF7, 0x86] {
+    ///     // SAFETY: three arrays with their own lengths.
+    ///     last = unsafe {
+    ///         let (state, state_len) = (state.as_mut_ptr(), state.len());
+    ///         let (store, store_len) = (store.as_mut_ptr(), store.len());
+    ///         let (out, out_len) = (out.as_mut_ptr(), out.len());
+    ///         sys::hanraquin_gate_receive(
+    ///             0x10, state, state_len, store, store_len, byte, out, out_len,
+    ///         )
+    ///     };
+    /// }
+    /// assert_eq!((sys::kind(last), sys::value(last)), (sys::DONE, sys::GATE_TELEGRAM + 3));
+    /// assert_eq!((state, &out[..3]), ([0; 7], &[0x01; 3][..]));
+    /// ```
+    #[must_use]
+    pub fn hanraquin_gate_receive(
+        own: u8,
+        state: *mut u64,
+        state_len: usize,
+        store: *mut u8,
+        store_len: usize,
+        event: u32,
+        out: *mut u8,
+        out_len: usize,
+    ) -> u64;
+
+    /// Carries out an operating command: [`gate::Commands::operate`](crate::gate::Commands::operate).
+    /// The value is [`GATE_ACK`] or [`GATE_NAK`].
+    ///
+    /// `levels` and `edges` have ten places, each 0 or 1. Other lengths, and a level or an edge above
+    /// 1, are refused with 1.
+    ///
+    /// # Safety
+    ///
+    /// See [the module](self). `levels` and `edges` may be written.
+    ///
+    /// ```
+    /// use hanraquin::sys;
+    ///
+    /// let (data, mut levels, mut edges) = ([0x01, 0x01, 0x01], [0; 10], [0; 10]);
+    /// // SAFETY: three arrays with their own lengths.
+    /// let answer = unsafe {
+    ///     let (data, data_len) = (data.as_ptr(), data.len());
+    ///     let (levels, levels_len) = (levels.as_mut_ptr(), levels.len());
+    ///     let (edges, edges_len) = (edges.as_mut_ptr(), edges.len());
+    ///     sys::hanraquin_gate_operate(data, data_len, levels, levels_len, edges, edges_len)
+    /// };
+    /// assert_eq!((sys::kind(answer), sys::value(answer)), (sys::DONE, sys::GATE_ACK.into()));
+    /// assert_eq!((levels, edges), ([0, 1, 0, 0, 0, 0, 0, 0, 0, 0], levels));
+    /// ```
+    #[must_use]
+    pub fn hanraquin_gate_operate(
+        data: *const u8,
+        data_len: usize,
+        levels: *mut u8,
+        levels_len: usize,
+        edges: *mut u8,
+        edges_len: usize,
+    ) -> u64;
+
+    /// Writes an operating command: [`gate::write_command`](crate::gate::write_command). The value
+    /// is its length.
+    ///
+    /// # Safety
+    ///
+    /// See [the module](self). `out` may be written.
+    ///
+    /// ```
+    /// use hanraquin::sys;
+    ///
+    /// let mut out = [0; 3];
+    /// // SAFETY: an array with its own length.
+    /// let answer = unsafe {
+    ///     sys::hanraquin_gate_write_command(0x01, 0x02, out.as_mut_ptr(), out.len())
+    /// };
+    /// assert_eq!((sys::kind(answer), sys::value(answer)), (sys::DONE, 3));
+    /// assert_eq!(out, [0x01, 0x01, 0x02]);
+    /// ```
+    #[must_use]
+    pub fn hanraquin_gate_write_command(
+        command: u8,
+        function: u8,
+        out: *mut u8,
+        out_len: usize,
+    ) -> u64;
+
+    /// Writes an answer of a barrier: [`gate::write_answer`](crate::gate::write_answer). The value
+    /// is its length.
+    ///
+    /// `kind` is [`GATE_ACK`], [`GATE_NAK`], [`GATE_BUSY`] or [`GATE_SYN`], with any `number`;
+    /// [`GATE_COUNT`] with the vehicle count; or [`GATE_POSITION`] with the position. Another kind
+    /// is refused with 3.
+    ///
+    /// # Safety
+    ///
+    /// See [the module](self). `out` may be written.
+    ///
+    /// ```
+    /// use hanraquin::sys;
+    ///
+    /// let mut out = [0; 5];
+    /// // SAFETY: an array with its own length.
+    /// let answer = unsafe {
+    ///     sys::hanraquin_gate_write_answer(sys::GATE_POSITION, -1, out.as_mut_ptr(), out.len())
+    /// };
+    /// assert_eq!((sys::kind(answer), sys::value(answer)), (sys::DONE, 2));
+    /// assert_eq!(out[..2], [0x1D, 0xFF]);
+    /// ```
+    #[must_use]
+    pub fn hanraquin_gate_write_answer(kind: u8, number: i32, out: *mut u8, out_len: usize) -> u64;
+
+    /// Reads an answer of a barrier: [`gate::read_answer`](crate::gate::read_answer). The value is
+    /// its kind.
+    ///
+    /// `number` has one place, which becomes the vehicle count, the position, or 0. Another length
+    /// is refused with 1. With any refusal nothing is written.
+    ///
+    /// # Safety
+    ///
+    /// See [the module](self). `number` may be written.
+    ///
+    /// ```
+    /// use hanraquin::sys;
+    ///
+    /// let (data, mut number) = ([0x1D, 0x64], [0]);
+    /// // SAFETY: two arrays with their own lengths.
+    /// let answer = unsafe {
+    ///     let (number, number_len) = (number.as_mut_ptr(), number.len());
+    ///     sys::hanraquin_gate_read_answer(data.as_ptr(), data.len(), number, number_len)
+    /// };
+    /// assert_eq!((sys::kind(answer), sys::value(answer)), (sys::DONE, sys::GATE_POSITION.into()));
+    /// assert_eq!(number, [100]);
+    /// ```
+    #[must_use]
+    pub fn hanraquin_gate_read_answer(
+        data: *const u8,
+        data_len: usize,
+        number: *mut i32,
+        number_len: usize,
     ) -> u64;
 }

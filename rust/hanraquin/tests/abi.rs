@@ -105,6 +105,72 @@ fn dry_run(
     }
 }
 
+fn gate_write(destination: u8, source: u8, data: &[u8], out: &mut [u8]) -> u64 {
+    // SAFETY: pointers and lengths are those of slices.
+    unsafe {
+        sys::hanraquin_gate_write(
+            destination,
+            source,
+            data.as_ptr(),
+            data.len(),
+            out.as_mut_ptr(),
+            out.len(),
+        )
+    }
+}
+
+fn gate_receive(own: u8, state: &mut [u64], store: &mut [u8], event: u32, out: &mut [u8]) -> u64 {
+    // SAFETY: pointers and lengths are those of slices.
+    unsafe {
+        sys::hanraquin_gate_receive(
+            own,
+            state.as_mut_ptr(),
+            state.len(),
+            store.as_mut_ptr(),
+            store.len(),
+            event,
+            out.as_mut_ptr(),
+            out.len(),
+        )
+    }
+}
+
+fn gate_operate(data: &[u8], levels: &mut [u8], edges: &mut [u8]) -> u64 {
+    // SAFETY: pointers and lengths are those of slices.
+    unsafe {
+        sys::hanraquin_gate_operate(
+            data.as_ptr(),
+            data.len(),
+            levels.as_mut_ptr(),
+            levels.len(),
+            edges.as_mut_ptr(),
+            edges.len(),
+        )
+    }
+}
+
+fn gate_write_command(command: u8, function: u8, out: &mut [u8]) -> u64 {
+    // SAFETY: pointer and length are those of a slice.
+    unsafe { sys::hanraquin_gate_write_command(command, function, out.as_mut_ptr(), out.len()) }
+}
+
+fn gate_write_answer(kind: u8, number: i32, out: &mut [u8]) -> u64 {
+    // SAFETY: pointer and length are those of a slice.
+    unsafe { sys::hanraquin_gate_write_answer(kind, number, out.as_mut_ptr(), out.len()) }
+}
+
+fn gate_read_answer(data: &[u8], number: &mut [i32]) -> u64 {
+    // SAFETY: pointers and lengths are those of slices.
+    unsafe {
+        sys::hanraquin_gate_read_answer(
+            data.as_ptr(),
+            data.len(),
+            number.as_mut_ptr(),
+            number.len(),
+        )
+    }
+}
+
 #[test]
 fn frame_answers_its_length() {
     let mut out = [0xA5; 2051];
@@ -359,4 +425,279 @@ fn refused_dry_runs_keep_everything() {
     check(&[], &[], [0, 1023, 3], 11);
     check(&[], &[], [0, 1024, 3], 2);
     check(&[0x61; 6], &addresses[..64], [64 * REGISTERS, 1024, 3], 3);
+}
+
+#[test]
+fn gate_write_answers_its_length() {
+    let mut out = [0xA5; 259];
+    assert_eq!(gate_write(0x01, 0x00, &[], &mut out), 6);
+    assert_eq!(gate_write(0xFE, 0x00, &[0x55; 253], &mut out), 259);
+    assert_eq!(gate_write(0xFF, 0x00, &[0; 254], &mut []), refused(16));
+    assert_eq!(gate_write(0x10, 0x00, &[], &mut out), refused(16));
+    assert_eq!(gate_write(0x10, 0x00, &[0; 254], &mut []), refused(7));
+    // The length of the data is not cut.
+    assert_eq!(gate_write(0x01, 0x00, &[0; 256], &mut out), refused(7));
+    assert_eq!(gate_write(0x01, 0x00, &[0; 65539], &mut out), refused(7));
+    assert_eq!(
+        gate_write(0xFE, 0x00, &[0; 253], &mut out[..258]),
+        refused(11)
+    );
+}
+
+#[test]
+fn gate_receive_answers_source_and_count() {
+    // Phase 5 with the check 1234, of which the high byte has come.
+    let waiting = |source, length| [5, 0x00, source, length, 0, 0x1234, 0x12];
+    for source in [0x00, 0x10, 0xFE] {
+        for length in [1, 2, 253] {
+            let mut state = waiting(source, length);
+            let (mut store, mut out) = ([0xB6; 253], [0xA5; 300]);
+            let answer = gate_receive(0x00, &mut state, &mut store, 0x34, &mut out);
+            assert_eq!(answer, 65536 + 256 * source + length);
+            assert_eq!((state, store), ([0; 7], [0xB6; 253]));
+            let (data, behind) = out.split_at(length as usize);
+            assert!(data.iter().all(|&byte| byte == 0xB6));
+            assert!(behind.iter().all(|&byte| byte == 0xA5));
+        }
+    }
+    for source in 0..=15 {
+        let mut state = waiting(source, 0);
+        let answer = gate_receive(0x00, &mut state, &mut [0; 253], 0x34, &mut []);
+        assert_eq!(answer, 131_072 + source);
+    }
+}
+
+#[test]
+fn gate_refusals_start_again_and_keep_the_store() {
+    let cases = [
+        (0xFF, [0; 7], sys::TIMER, 16),
+        (0xFF, [8, 0, 0, 0, 257, 0, 0], 0x55, 16),
+        (0x10, [3, 0x10, 0, 0, 0, 7, 0], 254, 7),
+        (0x10, [3, 0x10, 0, 0, 0, 7, 0], 255, 7),
+        (0x10, [5, 0x10, 0, 9, 0, 0x1234, 0x12], 0x35, 15),
+        (0x10, [5, 0x10, 0, 9, 0, 0x1234, 0x13], 0x34, 15),
+        (0x10, [5, 0x10, 0xFF, 9, 0, 0x1234, 0x12], 0x34, 16),
+        (0x10, [5, 0x10, 0, 0, 0, 0x1234, 0x12], 0x34, 16),
+        (0x01, [5, 0x01, 0x10, 0, 0, 0x1234, 0x12], 0x34, 16),
+        (0x10, [5, 0x10, 0, 9, 0, 0x1234, 0x12], 0x34, 11),
+    ];
+    for (own, mut state, event, number) in cases {
+        let (mut store, mut out) = ([0xB6; 253], [0xA5; 8]);
+        let answer = gate_receive(own, &mut state, &mut store, event, &mut out);
+        assert_eq!(answer, refused(number));
+        assert_eq!((state, store, out), ([0; 7], [0xB6; 253], [0xA5; 8]));
+    }
+}
+
+#[test]
+fn gate_states_that_cannot_be_are_refused_first() {
+    const HUGE: [u64; 4] = [1 << 16, 1 << 32, 1 << 63, u64::MAX];
+    // The largest words of each phase.
+    let largest = [
+        [0; 7],
+        [1, 0, 0, 0, 0, 0, 0],
+        [2, 255, 0, 0, 0, 65535, 0],
+        [3, 255, 255, 0, 0, 65535, 0],
+        [4, 255, 255, 253, 253, 65535, 0],
+        [5, 255, 255, 253, 0, 65535, 255],
+        [6, 0, 0, 0, 0, 0, 0],
+        [7, 0, 0, 0, 0, 0, 0],
+        [8, 0, 0, 0, 257, 0, 0],
+    ];
+    let mut bad = vec![[4, 0, 0, 0, 1, 0, 0], [4, 0, 0, 3, 4, 0, 0]];
+    for state in largest {
+        let mut good = state;
+        let answer = gate_receive(0x10, &mut good, &mut [0; 253], sys::TIMER, &mut []);
+        assert_eq!((answer, good), (0, [0; 7]), "{state:?}");
+        for word in 0..7 {
+            let above = HUGE.into_iter().chain([state[word] + 1]);
+            // One more as phase is another phase, and may be good.
+            let above = above.filter(|&above| word > 0 || above > 8);
+            bad.extend(above.map(|above| {
+                let mut state = state;
+                state[word] = above;
+                state
+            }));
+        }
+    }
+    for before in bad {
+        for own in [0x10, 0xFF] {
+            for event in [0, 0x55, 255, 256, 257] {
+                let (mut state, mut store, mut out) = (before, [0xB6; 253], [0xA5; 4]);
+                let answer = gate_receive(own, &mut state, &mut store, event, &mut out);
+                assert_eq!(answer, refused(1), "{before:?}");
+                assert_eq!((state, store, out), (before, [0xB6; 253], [0xA5; 4]));
+            }
+        }
+    }
+}
+
+#[test]
+fn gate_events_and_lengths_that_are_refused_first() {
+    let before = [4, 0x10, 0, 3, 1, 0, 0];
+    for own in [0x10, 0xFF] {
+        for event in [257, 256 + 0x55, 65536, 1 << 31, u32::MAX] {
+            let (mut state, mut store) = (before, [0xB6; 253]);
+            let answer = gate_receive(own, &mut state, &mut store, event, &mut []);
+            assert_eq!(answer, refused(1));
+            assert_eq!((state, store), (before, [0xB6; 253]));
+        }
+        for (state_len, store_len) in [(0, 253), (6, 253), (8, 253), (7, 0), (7, 252), (7, 254)] {
+            let (mut state, mut store) = (vec![0; state_len], vec![0xB6; store_len]);
+            for event in [0x55, sys::TIMER] {
+                let answer = gate_receive(own, &mut state, &mut store, event, &mut []);
+                assert_eq!(answer, refused(1));
+                assert_eq!(
+                    (&state, &store),
+                    (&vec![0; state_len], &vec![0xB6; store_len])
+                );
+            }
+        }
+    }
+}
+
+#[test]
+fn gate_bytes_are_stored_at_the_count() {
+    for event in 0..=255 {
+        let (mut state, mut store, mut out) = ([4, 0x10, 0, 253, 252, 0, 0], [0xB6; 253], [0xA5]);
+        assert_eq!(
+            gate_receive(0x10, &mut state, &mut store, event, &mut out),
+            0
+        );
+        assert_eq!((&state[..5], state[6]), (&[4, 0x10, 0, 253, 253][..], 0));
+        assert_eq!((&store[..252], store[252]), (&[0xB6; 252][..], event as u8));
+        // Then comes the high check byte, which is not stored.
+        let check = state[5];
+        assert_eq!(
+            gate_receive(0x10, &mut state, &mut store, 0x77, &mut out),
+            0
+        );
+        assert_eq!(state, [5, 0x10, 0, 253, 0, check, 0x77]);
+        assert_eq!((store[252], out), (event as u8, [0xA5]));
+    }
+    // With none left to drop, this was the last.
+    for left in [0, 1] {
+        let mut state = [8, 0, 0, 0, left, 0, 0];
+        assert_eq!(
+            gate_receive(0x10, &mut state, &mut [0; 253], 0x55, &mut []),
+            0
+        );
+        assert_eq!(state, [0; 7]);
+    }
+}
+
+#[test]
+fn gate_operate_answers() {
+    let (mut levels, mut edges) = ([0; 10], [1; 10]);
+    assert_eq!(gate_operate(&[1, 9, 1], &mut levels, &mut edges), 1);
+    assert_eq!((levels, edges), ([0, 0, 0, 0, 0, 0, 0, 0, 0, 1], [1; 10]));
+    assert_eq!(gate_operate(&[1, 10, 1], &mut levels, &mut edges), 2);
+    assert_eq!(gate_operate(&[1, 9, 3], &mut levels, &mut edges), 2);
+    assert_eq!(gate_operate(&[2, 9], &mut levels, &mut edges), refused(7));
+    assert_eq!(
+        gate_operate(&[2, 9, 1], &mut levels, &mut edges),
+        refused(3)
+    );
+    assert_eq!((levels, edges), ([0, 0, 0, 0, 0, 0, 0, 0, 0, 1], [1; 10]));
+}
+
+#[test]
+fn gate_registers_that_cannot_be_are_refused_first() {
+    for data in [&[1, 1, 1][..], &[1, 99, 99], &[2, 1, 1], &[]] {
+        for (levels_len, edges_len) in [(0, 10), (9, 10), (11, 10), (10, 0), (10, 9), (10, 11)] {
+            let (mut levels, mut edges) = (vec![0; levels_len], vec![0; edges_len]);
+            assert_eq!(gate_operate(data, &mut levels, &mut edges), refused(1));
+            assert_eq!((levels, edges), (vec![0; levels_len], vec![0; edges_len]));
+        }
+        for place in 0..10 {
+            for value in [2, 128, 255] {
+                let (mut wrong, mut good) = ([0; 10], [0; 10]);
+                wrong[place] = value;
+                let before = wrong;
+                assert_eq!(gate_operate(data, &mut wrong, &mut good), refused(1));
+                assert_eq!(gate_operate(data, &mut good, &mut wrong), refused(1));
+                assert_eq!((wrong, good), (before, [0; 10]));
+            }
+        }
+    }
+}
+
+#[test]
+fn gate_writers_answer_their_lengths() {
+    let mut out = [0xA5; 5];
+    assert_eq!(gate_write_command(0xFF, 0xFE, &mut out), 3);
+    assert_eq!(out, [0x01, 0xFF, 0xFE, 0xA5, 0xA5]);
+    assert_eq!(gate_write_command(1, 1, &mut out[..2]), refused(11));
+
+    for kind in 0..=255 {
+        let length = match kind {
+            sys::GATE_ACK..=sys::GATE_SYN => 1,
+            sys::GATE_COUNT => 5,
+            sys::GATE_POSITION => 2,
+            _ => {
+                assert_eq!(gate_write_answer(kind, -2, &mut []), refused(3));
+                continue;
+            }
+        };
+        let mut out = [0xA5; 5];
+        assert_eq!(gate_write_answer(kind, 100, &mut out), length);
+        assert_eq!(out[0], kind);
+        let short = &mut out[..length as usize - 1];
+        assert_eq!(gate_write_answer(kind, 100, short), refused(11));
+    }
+}
+
+#[test]
+fn gate_numbers_are_not_cut() {
+    let far = [i32::MIN, i32::MAX];
+    for number in [-256, -255, -129, -2, 101, 255, 256, 256 + 100, 65536 + 1]
+        .into_iter()
+        .chain(far)
+    {
+        let mut out = [0xA5; 5];
+        for out in [&mut out[..], &mut []] {
+            let answer = gate_write_answer(sys::GATE_POSITION, number, out);
+            assert_eq!(answer, refused(10));
+        }
+        assert_eq!(out, [0xA5; 5]);
+        // The other kinds take any number.
+        assert_eq!(gate_write_answer(sys::GATE_SYN, number, &mut out), 1);
+        assert_eq!(out, [0x04, 0xA5, 0xA5, 0xA5, 0xA5]);
+        assert_eq!(gate_write_answer(sys::GATE_COUNT, number, &mut out), 5);
+        assert_eq!(out[1..], number.to_le_bytes());
+        let mut read = [7];
+        assert_eq!(gate_read_answer(&out, &mut read), sys::GATE_COUNT.into());
+        assert_eq!(read, [number]);
+    }
+}
+
+#[test]
+fn gate_read_answer_writes_only_where_it_is_done() {
+    let cases = [
+        (&[0x01][..], 0x01, 0),
+        (&[0x02], 0x02, 0),
+        (&[0x03], 0x03, 0),
+        (&[0x04], 0x04, 0),
+        (&[0x1C, 0xFE, 0xFF, 0xFF, 0xFF], 0x1C, -2),
+        (&[0x1D, 0x64], 0x1D, 100),
+        (&[0x1D, 0xFF], 0x1D, -1),
+        (&[], refused(7), 7),
+        (&[0x05], refused(3), 7),
+        (&[0x00; 5], refused(3), 7),
+        (&[0x01, 0x00], refused(7), 7),
+        (&[0x1C, 0, 0, 0], refused(7), 7),
+        (&[0x1D, 0x65, 0x00], refused(7), 7),
+        (&[0x1D, 0x65], refused(10), 7),
+        (&[0x1D, 0xFE], refused(10), 7),
+    ];
+    for (data, answer, after) in cases {
+        let mut number = [7];
+        assert_eq!(gate_read_answer(data, &mut number), answer);
+        assert_eq!(number, [after]);
+        for length in [0, 2] {
+            let mut number = vec![7; length];
+            assert_eq!(gate_read_answer(data, &mut number), refused(1));
+            assert_eq!(number, vec![7; length]);
+        }
+    }
 }

@@ -1,7 +1,7 @@
 //! The numbers of the header for C are those of this crate.
 
 use hanraquin::{DATA_MAX, DLE, FACTORY, FRAME_MAX, NAK, REGISTERS, REQUEST_MAX, ROUTE};
-use hanraquin::{STATIONS_MAX, STX, TELEGRAM, sys};
+use hanraquin::{Refusal, STATIONS_MAX, STX, TELEGRAM, gate, sys};
 
 const HEADER: &str = include_str!("../../../include/hanraquin.h");
 
@@ -45,6 +45,80 @@ fn numbers_are_the_same() {
         ("AT_NOBODY", u64::from(sys::AT_NOBODY)),
     ] {
         assert_eq!(number(defined(name)), expected, "{name}");
+    }
+}
+
+#[test]
+fn numbers_of_the_gate_bus_are_the_same() {
+    let [relay_1, relay_2, relay_3, relay_4, relay_5, relay_6] = gate::RELAYS;
+    for (name, expected) in [
+        ("STATE", gate::Receiver::new(0).state().len()),
+        ("STORE", gate::Receiver::new(0).store().len()),
+        ("DATA_MAX", gate::DATA_MAX),
+        ("TELEGRAM_MAX", gate::TELEGRAM_MAX),
+        ("REGISTERS", gate::REGISTERS),
+        ("COMMAND_LENGTH", gate::COMMAND_LENGTH),
+        ("ANSWER_MAX", gate::ANSWER_MAX),
+        ("TELEGRAM", sys::GATE_TELEGRAM as usize),
+        ("TOKEN", sys::GATE_TOKEN as usize),
+    ] {
+        let name = format!("GATE_{name}");
+        assert_eq!(number(defined(&name)), expected as u64, "{name}");
+    }
+    for (name, expected) in [
+        ("START", gate::START),
+        ("BT", gate::BT),
+        ("BA", gate::BA),
+        ("BZ", gate::BZ),
+        ("BS", gate::BS),
+        ("RELAY_1", relay_1),
+        ("RELAY_2", relay_2),
+        ("RELAY_3", relay_3),
+        ("RELAY_4", relay_4),
+        ("RELAY_5", relay_5),
+        ("RELAY_6", relay_6),
+        ("PULSE", gate::PULSE),
+        ("ACTIVATE", gate::ACTIVATE),
+        ("DEACTIVATE", gate::DEACTIVATE),
+        ("ACK", sys::GATE_ACK),
+        ("NAK", sys::GATE_NAK),
+        ("BUSY", sys::GATE_BUSY),
+        ("SYN", sys::GATE_SYN),
+        ("COUNT", sys::GATE_COUNT),
+        ("POSITION", sys::GATE_POSITION),
+    ] {
+        let name = format!("GATE_{name}");
+        assert_eq!(number(defined(&name)), expected.into(), "{name}");
+    }
+}
+
+#[test]
+fn refusals_are_the_same() {
+    for (name, refusal) in [
+        ("SETUP", Refusal::Setup),
+        ("HEADER_CUT", Refusal::HeaderCut),
+        ("FUNCTION", Refusal::Function),
+        ("EXTENDED_COUNT", Refusal::ExtendedCount),
+        ("BLOCK", Refusal::Block),
+        ("MARK", Refusal::Mark),
+        ("BODY_LENGTH", Refusal::BodyLength),
+        ("NO_REGISTER", Refusal::NoRegister),
+        ("NO_WRITE", Refusal::NoWrite),
+        ("VALUE_RANGE", Refusal::ValueRange),
+        ("OUTPUT_SHORT", Refusal::OutputShort),
+        ("TOO_LONG", Refusal::TooLong),
+    ] {
+        let name = format!("REFUSED_{name}");
+        assert_eq!(number(defined(&name)), refusal.number().into(), "{name}");
+    }
+    for (name, refusal) in [
+        ("SETUP", gate::Refusal::Setup),
+        ("OUTPUT_SHORT", gate::Refusal::OutputShort),
+        ("CHECK", gate::Refusal::Check),
+        ("ADDRESS", gate::Refusal::Address),
+    ] {
+        let name = format!("REFUSED_{name}");
+        assert_eq!(number(defined(&name)), refusal.number().into(), "{name}");
     }
 }
 
