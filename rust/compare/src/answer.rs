@@ -45,3 +45,13 @@ pub mod heard {
     /// Send 10; the number of bytes of the message is added to this.
     pub const MESSAGE: usize = 65536;
 }
+
+/// What a receiver on the gate bus answers to an event, in the value of the answer.
+pub mod received {
+    /// No telegram has ended.
+    pub const NOTHING: usize = 0;
+    /// A telegram with data; 256 times its source and the number of data bytes are added to this.
+    pub const TELEGRAM: usize = 65536;
+    /// A token; its source is added to this.
+    pub const TOKEN: usize = 131_072;
+}

@@ -36,6 +36,16 @@ macro_rules! words {
 }
 words!(u8, u16, u32, u64, usize);
 
+impl Word for i32 {
+    /// The number of its bits, so that no number is wider than the word.
+    fn number(self) -> u64 {
+        self.cast_unsigned().into()
+    }
+    fn of(number: u64) -> i32 {
+        number as i32
+    }
+}
+
 /// A slice between guards.
 #[derive(Clone, PartialEq, Debug)]
 pub struct Lent<T> {
@@ -187,6 +197,14 @@ mod tests {
             wrong.all[right.front.wrapping_add_signed(place)] = 0;
             assert_eq!(difference("output", &wrong, &right).as_deref(), Some(text));
         }
+    }
+
+    #[test]
+    fn signed_words_keep_their_width() {
+        for (word, number) in [(0, 0), (100, 100), (-1, 0xFFFF_FFFF), (i32::MIN, 0x8000_0000)] {
+            assert_eq!((word.number(), i32::of(number)), (number, word));
+        }
+        assert_eq!(i32::all(0xEF).to_ne_bytes(), [0xEF; 4]);
     }
 
     #[test]

@@ -1,8 +1,9 @@
-//! The calls, one module each.
+//! The calls, one module each; those of the gate bus are in `gate`.
 
 pub mod dry_run;
 mod exchange;
 pub mod frame;
+pub mod gate;
 pub mod read_reply;
 pub mod receive;
 pub mod station;
@@ -21,6 +22,12 @@ pub fn parts() -> Vec<Part> {
         Part::of::<read_reply::ReadReply>(),
         Part::of::<dry_run::DryRun>(),
         Part::of_several("exchanges", exchange::generate),
+        Part::of::<gate::write::GateWrite>(),
+        Part::of::<gate::receive::GateReceive>(),
+        Part::of::<gate::operate::GateOperate>(),
+        Part::of::<gate::write_command::GateWriteCommand>(),
+        Part::of::<gate::write_answer::GateWriteAnswer>(),
+        Part::of::<gate::read_answer::GateReadAnswer>(),
     ]
 }
 

@@ -1,7 +1,9 @@
-//! Random inputs, made from a seed: numbers here, data and streams for a link in `link`, parts of
-//! telegrams in `telegrams`, and all kinds of them in `every_telegram`.
+//! Random inputs, made from a seed: numbers here, data and streams for a link in `link` and for the
+//! gate bus in `gate`, parts of MoP telegrams in `telegrams`, and all kinds of them in
+//! `every_telegram`.
 
 pub mod every_telegram;
+pub mod gate;
 pub mod link;
 pub mod telegrams;
 

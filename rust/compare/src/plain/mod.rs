@@ -1,9 +1,10 @@
-//! The six calls in plain safe Rust, written for speed: the yardstick for the proved library.
+//! The calls in plain safe Rust, written for speed: the yardstick for the proved library.
 //!
 //! They take the same slices and give the same 64-bit answers. Nothing is allocated, and
 //! no argument makes them panic.
 
 mod centre;
+pub mod gate;
 mod header;
 mod link;
 mod net;

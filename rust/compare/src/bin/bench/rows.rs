@@ -1,11 +1,14 @@
 //! What is measured. A row is one entry of [`rows`]: its words, and the call that is made.
 
-use compare::call::{Arguments, Call};
+use compare::call::Call;
 use compare::calls::frame::{frame, Frame};
+use compare::calls::gate::operate::operate;
+use compare::calls::gate::receive::{receive, GateReceive, WORDS};
+use compare::calls::gate::write::{write, GateWrite};
 use compare::calls::{dry_run, read_reply::heard, receive::Receive, station, write_request::WriteRequest};
 use compare::inputs::Random;
 use compare::lent::Lent;
-use hanraquin::{DATA_MAX, FRAME_MAX, REGISTERS, ROUTE, STX, TELEGRAM};
+use hanraquin::{gate, DATA_MAX, FRAME_MAX, REGISTERS, ROUTE, STX, TELEGRAM};
 use std::hint::black_box;
 
 /// One line of the table.
@@ -44,34 +47,51 @@ impl<C: Call> Work for C {
     }
 }
 
-/// The bytes of a stream, fed one by one.
-#[derive(Clone)]
-struct Fed(Receive, Vec<u8>);
+/// A call that takes one event, and goes on from the one before.
+trait Receiving: Call {
+    /// Feeds events to an implementation, on the slices of the call.
+    fn feeding(&mut self, function: Self::Function) -> impl FnMut(u32) -> u64;
+}
 
-impl Fed {
+impl Receiving for Receive {
     #[inline(always)]
-    fn feed(&mut self, receive: fn(&mut [u64], u32, &mut [u8]) -> u64) -> u64 {
-        let (state, buffer) = (&mut *self.0.state, &mut *self.0.buffer);
-        let mut answers = 0u64;
-        for &byte in &self.1 {
-            let (state, buffer) = (black_box(&mut *state), black_box(&mut *buffer));
-            answers = answers.wrapping_add(receive(state, byte.into(), buffer));
-        }
-        answers
+    fn feeding(&mut self, receive: Self::Function) -> impl FnMut(u32) -> u64 {
+        let (state, buffer) = (&mut *self.state, &mut *self.buffer);
+        move |event| receive(state, event, buffer)
     }
 }
 
-impl Work for Fed {
+impl Receiving for GateReceive {
+    #[inline(always)]
+    fn feeding(&mut self, receive: Self::Function) -> impl FnMut(u32) -> u64 {
+        let (own, state, store, out) = (self.own, &mut *self.state, &mut *self.store, &mut *self.out);
+        move |event| receive(own, state, store, event, out)
+    }
+}
+
+/// The bytes of a stream, fed one by one.
+#[derive(Clone)]
+struct Fed<C>(C, Vec<u8>);
+
+impl<C: Receiving> Fed<C> {
+    #[inline(always)]
+    fn feed(&mut self, function: C::Function) -> u64 {
+        let mut feed = black_box(&mut self.0).feeding(function);
+        self.1.iter().fold(0, |answers: u64, &byte| answers.wrapping_add(feed(byte.into())))
+    }
+}
+
+impl<C: Receiving> Work for Fed<C> {
     fn library(&mut self) -> u64 {
-        self.feed(Receive::LIBRARY)
+        self.feed(C::LIBRARY)
     }
 
     fn plain(&mut self) -> u64 {
-        self.feed(Receive::PLAIN)
+        self.feed(C::PLAIN)
     }
 
     fn agree(&self) -> bool {
-        let [library, plain, reference] = [Receive::LIBRARY, Receive::PLAIN, Receive::REFERENCE].map(|function| {
+        let [library, plain, reference] = [C::LIBRARY, C::PLAIN, C::REFERENCE].map(|function| {
             let mut fed = self.clone();
             (fed.feed(function), fed.0)
         });
@@ -84,12 +104,16 @@ fn row(key: &'static str, name: &'static str, call: impl Call) -> Row {
     Row { key, name, work: Box::new(call), calls: 1, bytes: None }
 }
 
+/// A row of a call for each byte of a stream.
+fn fed_row(key: &'static str, name: &'static str, call: impl Receiving, stream: Vec<u8>) -> Row {
+    let count = stream.len();
+    Row { key, name, work: Box::new(Fed(call, stream)), calls: count, bytes: Some(count) }
+}
+
 /// All rows, with random data from a seed.
 pub fn rows(seed: u64) -> Vec<Row> {
     let random = Random::new(seed).bytes(DATA_MAX);
     let framed = |key, name, data: &[u8]| Row { bytes: Some(data.len()), ..row(key, name, frame(data, FRAME_MAX)) };
-    let fed = stream_of(&random);
-    let count = fed.len();
     let half = Receive { state: vec![0; 3].into(), event: 0, buffer: Lent::output(DATA_MAX) };
     let handled = |key, name, telegram: Vec<u8>| {
         let mut call = station::call(telegram);
@@ -111,16 +135,14 @@ pub fn rows(seed: u64) -> Vec<Row> {
     };
     let reply = vec![0xE0, 0xFF, 0x00, 0x12, 0x13, 0x55, 0x03, 0xBB, 2, 1, 2, 3, 4];
     let run = dry_run::run(fresh.clone(), route, vec![7; ROUTE * REGISTERS]);
+    let sent = write(0x10, 0x00, &random[..gate::DATA_MAX], gate::TELEGRAM_MAX);
+    let bus = sent.outcome(GateWrite::REFERENCE, 0).after.out.to_vec();
+    let barrier = receive(0x10, &[0; WORDS], 0, gate::DATA_MAX);
+    let command = operate(&[0x01, gate::BA, gate::ACTIVATE], 0, 0);
     vec![
         framed("frame-random", "frame, 1,024 random bytes", &random),
         framed("frame-10", "frame, 1,024 bytes of 10", &[0x10; DATA_MAX]),
-        Row {
-            key: "receive",
-            name: "receive, one byte of such a frame",
-            work: Box::new(Fed(half, fed)),
-            calls: count,
-            bytes: Some(count),
-        },
+        fed_row("receive", "receive, one byte of such a frame", half, stream_of(&random)),
         handled("relay", "station, relay, 4 entries", standard(relay)),
         handled("relay-32", "station, relay, 32 entries", fresh),
         handled("destination", "station, destination, 4 entries", standard(destination)),
@@ -128,6 +150,9 @@ pub fn rows(seed: u64) -> Vec<Row> {
         row("request", "write request, 3 stations, 2 values", request),
         row("reply", "read reply, 3 stations, 2 values", heard(reply)),
         row("dry-run", "dry run, 31 stations, 62 transmissions", run),
+        Row { bytes: Some(gate::DATA_MAX), ..row("gate-write", "gate write, 253 random bytes", sent) },
+        fed_row("gate-receive", "gate receive, a byte of such a telegram", barrier, bus),
+        row("gate-operate", "gate operate, one command", command),
     ]
 }
 
