@@ -44,7 +44,9 @@ use Rattle.net_report.proofs.Journeys.{tells-the-journey}
 use Rattle.net_hop.proofs.Tables.{good-net}
 use Rattle.net_dry_run.proofs.Outputs.{length-padded}
 use Rattle.net_dry_run.proofs.Journeys.{runs-the-journey}
-use Rattle.worked_cases.specs.Cases.{factoryTables, factoryNet, Travels, Tells, Promised, answered, unanswered, Asked, _also_, none, WorkedCases}
+use Rattle.worked_cases.specs.Holding.{_also_, none}
+use Rattle.worked_cases.specs.Cases.{factoryTables, factoryNet, Travels, Tells, Promised, answered, unanswered, Asked, WorkedCases}
+use Rattle.worked_cases.proofs.GateCases.{gate-cases}
 
 -- all of an output that a dry run fills
 padded-alone : (tg : List ℕ) → length tg ≤ runOutput → placed (padded tg) (replicate runOutput 0) ≡ padded tg
@@ -161,4 +163,5 @@ worked-cases =
     also refl
     also refl also refl also refl also refl also refl also refl also refl also refl
     also refl also refl also refl also refl also refl also refl also refl
+    also gate-cases
     also none

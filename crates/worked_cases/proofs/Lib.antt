@@ -1,1 +1,2 @@
+pub mod GateCases
 pub mod Cases

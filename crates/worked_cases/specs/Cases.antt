@@ -29,6 +29,8 @@ use Rattle.net_dry_run.specs.DryRun.{played, leaves, padded, dryRun}
 use Rattle.net_report.specs.Text.{codes}
 use Rattle.net_report.specs.Report.{reportOutput, reporting}
 use Rattle.net_report.specs.Report as report
+use Rattle.worked_cases.specs.Holding.{AllHold}
+use Rattle.worked_cases.specs.GateCases.{GateCase, GateHolds, gateCases}
 
 -- the factory values, but for one register
 abbrev pub factoryWith : ℕ → ℕ → List ℕ
@@ -106,6 +108,8 @@ pub data Case : Type 0 where
   -- the addresses of stations, a route, read start and count, write start and values, the length of the request, and what becomes of
   -- it
   asks : List ℕ → List ℕ → ℕ → ℕ → ℕ → List ℕ → ℕ → Expected → Case
+  -- the cases of the gate bus
+  gate : List GateCase → Case
 
 -- what a case says of the calls; a station has an output of 1,024 places, and the stations of a net have factory values
 abbrev pub Holds : Case → Type 0
@@ -130,12 +134,7 @@ Holds (replies tg route start count bytes) =
     }
 Holds (noReply tg r) = replyReading tg ≡ record { answer = told r (replicate 31 0) 0 0 0; values = []; begins = anywhere }
 Holds (asks addresses route rStart rCount wStart values n x) = Asked addresses route rStart rCount wStart values n x
-
--- each case of a list holds
-infixr 5 _also_
-pub data AllHold : List Case → Type 0 where
-  none : AllHold []
-  _also_ : {c : Case} {cs : List Case} → Holds c → AllHold cs → AllHold (c ∷ cs)
+Holds (gate cs) = AllHold GateHolds cs
 
 -- so many stations, with their number first
 abbrev pub downFrom : ℕ → List ℕ
@@ -286,8 +285,10 @@ cases =
     ∷ noReply (0xE0 ∷ 0xFF ∷ 0x00 ∷ 0xEF ∷ 0xEF ∷ 0xEF ∷ 0x21 ∷ []) (centre.refuses 4)
     ∷ noReply (0xE0 ∷ 0xFF ∷ 0x00 ∷ 0xEF ∷ 0xEF ∷ 0xEF ∷ 0x03 ∷ 0x00 ∷ 0x12 ∷ []) (centre.refuses 2)
     ∷ noReply (0xE0 ∷ 0xFF ∷ 0x00 ∷ 0x12 ∷ 0x00 ∷ 0x00 ∷ []) (centre.refuses 7)
+    -- the gate bus
+    ∷ gate gateCases
     ∷ []
 
 -- every case of the table holds
 abbrev pub WorkedCases : Type 0
-WorkedCases = AllHold cases
+WorkedCases = AllHold Holds cases

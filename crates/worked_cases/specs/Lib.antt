@@ -1,1 +1,3 @@
+pub mod Holding
+pub mod GateCases
 pub mod Cases
