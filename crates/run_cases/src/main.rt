@@ -1,6 +1,7 @@
 // What is only run. Without an argument: the calls at their limits, and the receiving half's table row by row.
 // `frame` frames standard input and feeds the frame back; `listen` feeds standard input to a receiving half.
 mod centre_limits;
+mod gate_limits;
 mod limits;
 mod link;
 mod net_limits;
@@ -25,6 +26,11 @@ fn show_limits() {
     centre_limits::requests();
     centre_limits::blocks();
     centre_limits::replies();
+    gate_limits::telegrams();
+    gate_limits::bytes();
+    gate_limits::ends();
+    gate_limits::barrier();
+    gate_limits::answers();
 }
 
 // Where there is no argument the word is all 00. One of fewer than 8 bytes has 00s behind it; of a longer one only the first

@@ -2,6 +2,8 @@
 //! tells a call and, behind a colon, what came of it. The call is made of the reference, which must
 //! tell the same.
 
+mod gate;
+
 use super::{message, shown};
 use crate::answer::{self, heard};
 use crate::call::{Call, Outcome};
@@ -15,13 +17,18 @@ use hanraquin::{FRAME_MAX, REGISTERS, STATIONS_MAX, TELEGRAM};
 type Tell = fn(&mut Columns) -> Option<String>;
 
 /// The tables, each with its heading.
-pub const TABLES: [(&str, Tell); 6] = [
+pub const TABLES: [(&str, Tell); 11] = [
     ("frame: byte, how often, places", frame),
     ("receive: phase (R, I, D, W), check, count, places, event", event),
     ("handle: own, table, places, telegram", station),
     ("dry_run: addresses; tables, places, telegram", net),
     ("write_request: reads, writes, places, route", request),
     ("read_reply: telegram", reply),
+    ("gate write: destination, source, how many bytes A5, places", gate::telegram),
+    ("gate receive: own, phase, destination, source, length, count, store, places, byte", gate::received),
+    ("gate operate: command, function", gate::operate),
+    ("gate write_answer: position, places", gate::position),
+    ("gate read_answer and write_answer: bytes", gate::read_answer),
 ];
 
 /// What the reference tells of the call of every row, below the headings as they are.

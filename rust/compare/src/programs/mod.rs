@@ -218,7 +218,18 @@ mod tests {
         let file = concat!(env!("CARGO_MANIFEST_DIR"), "/../../crates/run_cases/stdout");
         let rows = std::fs::read_to_string(file).expect("the rows that run_cases prints");
         assert_eq!(wrong_row(&rows), None);
-        for (row, wrong) in [("sent 9", "sent 8"), (" 1 18", " 0 18"), ("refused 12", "refused 2")] {
+        for (row, wrong) in [
+            ("sent 9", "sent 8"),
+            (" 1 18", " 0 18"),
+            ("refused 12", "refused 2"),
+            ("55 00 01 00 7E", "55 00 01 00 7F"),
+            ("X 00 00 0 256 0", "X 00 00 0 255 0"),
+            ("0 253; kept", "0 252; kept"),
+            ("ack 00", "ack 10"),
+            ("1D FF; kept", "1D FE; kept"),
+            ("1C 80 80 80 80; kept", "1C 80 80 80 81; kept"),
+        ] {
+            assert!(rows.contains(row), "{row}");
             assert!(wrong_row(&rows.replacen(row, wrong, 1)).is_some());
         }
         assert!(wrong_row("").is_some());
