@@ -10,25 +10,17 @@ use gate_commands::OperateAnswer;
 use gate_receive::GateAnswer;
 use gate_receive::GateEvent;
 use gate_receive::GateState;
-use gate_refusal::GateRefusal;
 use gate_refusal::GateWritten;
-
-fn show_refusal(r: GateRefusal) {
-    show::text(b": refused");
-    show::number(r.number() as usize);
-}
 
 // The answer of a call that writes, with the end of what is written, and how far the output is as before behind it.
 fn show_written(answer: GateWritten, out: &[u8]) {
     match answer {
         GateWritten::Written(n) => {
-            show::text(b": written");
-            show::number(n);
-            show::bytes(parts::last(parts::of(out, n), 7));
+            show::filled(out, n, 7);
             limits::show_kept(out, n);
         }
         GateWritten::Refused(r) => {
-            show_refusal(r);
+            show::refused(r.number());
             limits::show_kept(out, 0);
         }
     }
@@ -49,7 +41,7 @@ fn write_case(destination: u8, source: u8, n: usize, places: usize) {
 
 // A phase, and what it has of destination, source, length and count; 0 for what it does not have.
 fn show_phase(phase: u8, destination: u8, source: u8, size: u8, count: usize) {
-    show::text(&[b' ', phase]);
+    show::text(&[b';', b' ', phase]);
     show::byte(destination);
     show::byte(source);
     show::number(size as usize);
@@ -103,7 +95,7 @@ fn show_answer(answer: GateAnswer) {
             show::text(b": token");
             show::byte(source);
         }
-        GateAnswer::Refused(r) => show_refusal(r),
+        GateAnswer::Refused(r) => show::refused(r.number()),
     }
 }
 
@@ -123,7 +115,6 @@ fn byte_case(own: u8, state: GateState, lent: usize, b: u8, places: usize) {
     let answer = step.answer;
     let next = step.state;
     show_answer(answer);
-    show::mark(b';');
     show_state(next);
     show::number(limits::first_other(&room, 0, BEFORE));
     limits::show_kept(&all, 0);
@@ -153,33 +144,16 @@ fn last_case(destination: u8, source: u8, size: u8, low: u8, places: usize) {
     byte_case(0x10, state, 253, low, places);
 }
 
-// The byte 55 where so many are left to drop.
-fn left_case(left: usize) {
-    byte_case(0x10, GateState::Dropping { left }, 253, 0x55, 253);
-}
-
-fn show_verdict(answer: OperateAnswer) {
-    match answer {
-        OperateAnswer::Ack => show::text(b": ack"),
-        OperateAnswer::Nak => show::text(b": nak"),
-        OperateAnswer::Refused(r) => show_refusal(r),
-    }
-}
-
-// A command and a function where all levels are 1 and all edges 0, the answer, and level and edge of the last command.
+// A command and a function where all levels and edges are 0, and whether the answer is ack.
 fn command_case(command: u8, function: u8) {
     show::byte(command);
     show::byte(function);
-    let before = GateRegisters {
-        levels: [true; 10],
-        edges: [false; 10],
-    };
-    let operated = gate_commands::operate(before, &[0x01, command, function]);
+    let operated = gate_commands::operate(GateRegisters::clear(), &[0x01, command, function]);
     let answer = operated.answer;
-    let levels = operated.registers.levels;
-    let edges = operated.registers.edges;
-    show_verdict(answer);
-    show::text(&[b' ', b'0' | levels[9] as u8, b'0' | edges[9] as u8, b'\n']);
+    match answer {
+        OperateAnswer::Ack => show::text(b": ack\n"),
+        _ => show::text(b": no ack\n"),
+    }
 }
 
 // Writes an answer into an output of so many places, and shows all that it gives.
@@ -190,9 +164,9 @@ fn answer_case(answer: BarrierAnswer, places: usize) {
     show_written(written, &room);
 }
 
-// Writes the answer with a position, which is shown as a byte.
-fn position_case(z: i8, places: usize) {
-    show::byte(signed::unsigned8(z));
+// Writes the answer with a position, whose byte is b.
+fn position_case(b: u8, z: i8, places: usize) {
+    show::byte(b);
     show::number(places);
     answer_case(BarrierAnswer::Position(z), places);
 }
@@ -204,7 +178,7 @@ fn read_case(kind: u8, other: u8, n: usize) {
     match gate_answers::read_answer(parts::of(&src, n)) {
         AnswerRead::Answer(answer) => answer_case(answer, 5),
         AnswerRead::Refused(r) => {
-            show_refusal(r);
+            show::refused(r.number());
             show::mark(b'\n');
         }
     }
@@ -216,14 +190,12 @@ pub(crate) fn telegrams() {
     write_case(0x10, 0x00, 253, 259);
     write_case(0x10, 0x00, 253, 258);
     write_case(0x10, 0x00, 254, 260);
-    write_case(0x10, 0x00, 254, 0);
     write_case(0x00, 0x01, 256, 260);
     write_case(0xFE, 0x0F, 1, 7);
     write_case(0x0F, 0xFE, 1, 7);
     write_case(0xFF, 0x00, 1, 7);
     write_case(0x00, 0xFF, 254, 0);
     write_case(0x00, 0x01, 0, 6);
-    write_case(0x00, 0x01, 0, 5);
     write_case(0x0F, 0x0F, 0, 6);
     write_case(0x10, 0x00, 0, 6);
     write_case(0x00, 0x10, 0, 5);
@@ -248,11 +220,11 @@ pub(crate) fn bytes() {
     byte_case(0xFF, GateState::AtDestination, 253, 0xFF, 253);
     byte_case(0xFF, GateState::AtDestination, 252, 0xFF, 253);
     byte_case(0x10, GateState::Rest, 254, 0x55, 253);
-    left_case(0);
-    left_case(1);
-    left_case(2);
-    left_case(257);
-    left_case(258);
+    byte_case(0x10, GateState::Dropping { left: 0 }, 253, 0x55, 253);
+    byte_case(0x10, GateState::Dropping { left: 1 }, 253, 0x55, 253);
+    byte_case(0x10, GateState::Dropping { left: 2 }, 253, 0x55, 253);
+    byte_case(0x10, GateState::Dropping { left: 257 }, 253, 0x55, 253);
+    byte_case(0x10, GateState::Dropping { left: 258 }, 253, 0x55, 253);
 }
 
 // Data bytes, and last bytes.
@@ -281,20 +253,18 @@ pub(crate) fn barrier() {
     command_case(0x0A, 0x02);
     command_case(0x0A, 0x03);
     show::text(b"gate write_answer: position, places\n");
-    position_case(-128, 2);
-    position_case(-2, 2);
-    position_case(-1, 2);
-    position_case(0, 2);
-    position_case(100, 2);
-    position_case(100, 1);
-    position_case(101, 1);
-    position_case(127, 2);
+    position_case(0x80, -128, 2);
+    position_case(0xFE, -2, 2);
+    position_case(0xFF, -1, 2);
+    position_case(0x00, 0, 2);
+    position_case(0x64, 100, 2);
+    position_case(0x65, 101, 1);
+    position_case(0x7F, 127, 2);
 }
 
 // Kinds of answers, each with lengths about the right one; then positions.
 pub(crate) fn answers() {
     show::text(b"gate read_answer and write_answer: bytes\n");
-    read_case(0x00, 0x00, 0);
     read_case(0x00, 0x00, 1);
     read_case(0x01, 0x00, 1);
     read_case(0x01, 0x00, 2);
@@ -306,8 +276,9 @@ pub(crate) fn answers() {
     read_case(0x1C, 0x80, 6);
     read_case(0x1E, 0x00, 2);
     read_case(0x1D, 0x65, 1);
-    read_case(0x1D, 0x65, 2);
     read_case(0x1D, 0x65, 3);
+    read_case(0x1D, 0x65, 2);
+    read_case(0x1D, 0x64, 2);
     read_case(0x1D, 0xFE, 2);
     read_case(0x1D, 0xFF, 2);
 }

@@ -63,19 +63,28 @@ pub(crate) fn start(s: &[u8], n: usize, most: usize) {
     bytes(parts::of(parts::of(s, n), most));
 }
 
-// A refusal, as an answer: all answers begin with a colon.
-pub(crate) fn refusal(r: Refusal) {
+// A refusal by its number, as an answer: all answers begin with a colon.
+pub(crate) fn refused(n: u8) {
     text(b": refused");
-    number(r.number() as usize);
+    number(n as usize);
+}
+
+pub(crate) fn refusal(r: Refusal) {
+    refused(r.number());
+}
+
+// The length of what is written, and its end, no more than so many bytes.
+pub(crate) fn filled(out: &[u8], n: usize, most: usize) {
+    text(b": written");
+    number(n);
+    bytes(parts::last(parts::of(out, n), most));
 }
 
 // The answer of a call that writes, with the end of what is written, no more than so many bytes. Gives its length.
 pub(crate) fn written(a: WriteAnswer, out: &[u8], most: usize) -> usize {
     match a {
         WriteAnswer::Written(n) => {
-            text(b": written");
-            number(n);
-            bytes(parts::last(parts::of(out, n), most));
+            filled(out, n, most);
             n
         }
         WriteAnswer::Refused(r) => {

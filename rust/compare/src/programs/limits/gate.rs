@@ -69,21 +69,15 @@ pub fn received(columns: &mut Columns) -> Option<String> {
     Some(format!("{answer}; {phase} {destination:02X} {source:02X} {length} {count} {stored}; {kept}"))
 }
 
-/// All levels are 1, and all edges 0. Those of the last command are told.
+/// All levels and edges are 0.
 pub fn operate(columns: &mut Columns) -> Option<String> {
     let call = GateOperate {
         data: vec![OPERATE, byte(columns)?, byte(columns)?].into(),
-        levels: vec![1; REGISTERS].into(),
+        levels: vec![0; REGISTERS].into(),
         edges: vec![0; REGISTERS].into(),
     };
-    let outcome = outcome(&call);
-    let answer = match (outcome.is_done(), outcome.value() as u8) {
-        (false, _) => answer::text(outcome.answer, ""),
-        (true, ACK) => "ack".into(),
-        (true, _) => "nak".into(),
-    };
-    let (level, edge) = (outcome.after.levels.last()?, outcome.after.edges.last()?);
-    Some(format!("{answer} {level}{edge}"))
+    let is_ack = outcome(&call).answer == answer::done(ACK.into());
+    Some(if is_ack { "ack" } else { "no ack" }.into())
 }
 
 /// What comes of an answer that is written into an output of so many places.
