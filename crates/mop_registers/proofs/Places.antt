@@ -5,7 +5,7 @@ use mathlib.Core.Bool.{Bool, true, false, not, _||_, false≢true}
 use mathlib.Core.List.{List, [], _∷_, map}
 use Prim.Native.Nat.{ℕ, suc, _≤_, _<_}
 use native.Mathlib.Omega.{arith}
-use borrow.Author.Tests.{lt-ltb, le-ltb, ltb-true, ltb-false, eqb-true, ne-eqb, not-true}
+use borrow.Author.Tests.{lt-ltb, le-ltb, ltb-true, ltb-false, eqb-true, not-true}
 use lib.Dec.{eqb, ltb}
 use lib.ListN.{length, getD, drop, drop-of-length-le}
 use Rattle.base.proofs.Choice.{pick-either}
@@ -41,7 +41,7 @@ pub place-most : (n : ℕ) → placeOf n ≤ tableLength
 unfolding placeOf tableLength
 place-most n = rows-most n rows
 
-abbrev numbersOf : List Row → List ℕ
+abbrev pub numbersOf : List Row → List ℕ
 numbersOf l = map (λ r. r .number) l
 
 -- the row at the place of a number that is found has that number
@@ -114,17 +114,11 @@ pub taken-exists : (n v : ℕ) → takes n v ≡ true → exists n ≡ true
 unfolding takes
 taken-exists n v t = only-rows n (λ l. rangeOf l v) refl t
 
--- T, and a number is that of none of the rows: what a match over them leaves to its last arm
-abbrev pub NoneOf : Type 0 → ℕ → List Row → Type 0
-NoneOf T n [] = T
-NoneOf T n (r ∷ rs) = NoneOf (T × (n ≡ r .number → ⊥)) n rs
-
-none-before : (T : Type 0) (n : ℕ) (l : List Row) → NoneOf T n l → T × (rowsBefore n l ≡ length l)
-none-before T n [] t = (t, refl)
-none-before T n (r ∷ rs) t =
-    let k = none-before (T × (n ≡ r .number → ⊥)) n rs t in
-    (k .0 .0, rw (ne-eqb n (r .number) (k .0 .1), k .1))
-
-pub no-place : (n : ℕ) → NoneOf Unit n rows → placeOf n ≡ tableLength
-unfolding placeOf tableLength
-no-place n t = none-before Unit n rows t .1
+-- a number of which a test does not hold, though it does of each number of the table
+pub no-place : (n : ℕ) (f : ℕ → Bool) → every f (numbersOf rows) ≡ true → f n ≡ false → placeOf n ≡ tableLength
+unfolding exists
+no-place n f all none = go (exists n) refl
+  where
+    go : (b : Bool) → exists n ≡ b → placeOf n ≡ tableLength
+    go true there = absurd (false≢true (sym none ∙ by-test n there f all))
+    go false e = omega (arith, place-most n, ltb-false (placeOf n) tableLength e)

@@ -12,7 +12,7 @@ use borrow.Author.Tests.{leb-true, leb-false, eqb-true, eqb-false}
 use lib.Dec.{eqb, leb}
 use lib.ListN.{length, getD, take, drop, set, length-set}
 use lib.Seq.{sets, drop-cons, getD-set-same, getD-set-other}
-use Rattle.mop_registers.specs.Rows.{tableLength, placeOf, exists, mayWrite, takes}
+use Rattle.mop_registers.specs.Rows.{fromTo, tableLength, placeOf, exists, mayWrite, takes}
 use Rattle.mop_registers.specs.Runs.{runExists, LongestRun, runMayWrite, runTakes, writes, reads, KeptOrInRange, WritesInRange}
 use Rattle.mop_registers.proofs.Tests.{both-true}
 use Rattle.mop_registers.proofs.Places.{place-most, place-bound, place-apart, place-next, number-bound, taken-exists, no-nine}
@@ -67,6 +67,20 @@ run-places s c (suc i) r h =
     let before : i < c = omega arith in
     let next : exists (suc (s + i)) ≡ true = rw (← add-suc s i) (run-at s c (suc i) r h) in
     rw (add-suc s i, add-suc (placeOf s) i) (place-next (s + i) (run-at s c i r before) next ∙ ap suc (run-places s c i r before))
+
+-- a number from a first to a last one
+module _ (first last n : ℕ) (within : fromTo first last n ≡ true) where
+  pub from-first : first ≤ n
+  from-first = leb-true first n (both-true (leb first n) (leb n last) within .0)
+
+  pub to-last : n ≤ last
+  to-last = leb-true n last (both-true (leb first n) (leb n last) within .1)
+
+  -- if all of these are registers, it is as far behind the first place as behind the first number
+  pub place-within : runExists first (suc last - first) ≡ true → placeOf first + (n - first) ≡ placeOf n
+  place-within r =
+      let at : first + (n - first) ≡ n = omega (arith, from-first) in
+      sym (run-places first (suc last - first) (n - first) r (omega (arith, from-first, to-last))) ∙ ap placeOf at
 
 pub run-room : (s c : ℕ) → runExists s c ≡ true → placeOf s + c ≤ tableLength
 run-room s zero r = rw (add-zero (placeOf s)) (place-most s)

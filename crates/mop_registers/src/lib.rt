@@ -25,30 +25,23 @@ enum Range {
     NoValue,
 }
 
-// The place of a register's value in a table; TABLE_LENGTH for a number that no register has.
+// The place of a register's value in a table; TABLE_LENGTH for a number that no register has. In a run of numbers a place is
+// as far from the run's first place as its number is from the run's first number.
 pub fn place_of(number: usize) -> usize
     ensures { λ r. ⌜ r ≡ placeOf number ⌝ }
 {
-    match number {
-        2 => 0,
-        300 => 1,
-        931 => 2,
-        932 => 3,
-        933 => 4,
-        934 => 5,
-        935 => 6,
-        936 => 7,
-        952 => 8,
-        953 => 9,
-        955 => 10,
-        956 => 11,
-        957 => 12,
-        958 => 13,
-        959 => 14,
-        960 => 15,
-        961 => 16,
-        962 => 17,
-        _ => TABLE_LENGTH,
+    if number == 2 {
+        0
+    } else if number == 300 {
+        1
+    } else if (931 <= number) & (number <= 936) {
+        2 + (number - 931)
+    } else if (952 <= number) & (number <= 953) {
+        8 + (number - 952)
+    } else if (955 <= number) & (number <= 962) {
+        10 + (number - 955)
+    } else {
+        TABLE_LENGTH
     }
 }
 
