@@ -6,6 +6,7 @@ mod limits;
 mod link;
 mod net_limits;
 mod parts;
+mod register_limits;
 mod show;
 mod station_limits;
 
@@ -19,6 +20,7 @@ fn show_limits() {
     station_limits::outputs();
     station_limits::bodies();
     station_limits::times();
+    register_limits::places();
     net_limits::setups();
     net_limits::counts();
     net_limits::orders();

@@ -12,15 +12,17 @@ use crate::calls::{receive::Receive, write_request::WriteRequest};
 use crate::lent::Lent;
 use hanraquin::sys::TIMER;
 use hanraquin::{FRAME_MAX, REGISTERS, STATIONS_MAX, TELEGRAM};
+use reference::registers;
 
 /// What the reference tells of a call.
 type Tell = fn(&mut Columns) -> Option<String>;
 
 /// The tables, each with its heading.
-pub const TABLES: [(&str, Tell); 11] = [
+pub const TABLES: [(&str, Tell); 12] = [
     ("frame: byte, how often, places", frame),
     ("receive: phase (R, I, D, W), check, count, places, event", event),
     ("handle: own, table, places, telegram", station),
+    ("place_of: first, last", places),
     ("dry_run: addresses; tables, places, telegram", net),
     ("write_request: reads, writes, places, route", request),
     ("read_reply: telegram", reply),
@@ -175,6 +177,12 @@ fn station(columns: &mut Columns) -> Option<String> {
     let registers = registers_kept(&call.registers, &after.registers);
     let kept = bytes_kept(&call.out, &after.out, length, TELEGRAM + 1);
     Some(format!("{answer}{}; {registers}; {kept}", shown(&after.out[..length.min(32)])))
+}
+
+fn places(columns: &mut Columns) -> Option<String> {
+    let numbers = number(columns)?..=number(columns)?;
+    let shown = |number| Some(format!("; {number} at {}", registers::place(u16::try_from(number).ok()?)?));
+    Some(format!("places{}; no other", numbers.filter_map(shown).collect::<String>()))
 }
 
 fn net(columns: &mut Columns) -> Option<String> {
