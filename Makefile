@@ -86,9 +86,11 @@ $(ARCHIVE): crates.txt Makefile scripts/archive $(shell find crates)
 	@printf 'Proving and compiling the library for C and Rust: %s ..\n' "$@"
 	@sh scripts/archive $@ $(LIBRARY)
 
-# Measures the library beside plain Rust written for speed, and prints how; then the times of the last make test.
+# Measures the library beside plain Rust written for speed, and prints how; then the bytes of its code and constants, and the
+# times of the last make test.
 bench: staticlib
 	@env -u HANRAQUIN_LIB_DIR cargo run --offline --quiet --release --manifest-path rust/Cargo.toml -p compare --bin bench
+	@sh scripts/sizes $(ARCHIVE)
 	@sh scripts/times
 
 # Goes on comparing the library with the reference, with ever new inputs.
