@@ -41,7 +41,7 @@ pub place-most : (n : ℕ) → placeOf n ≤ tableLength
 unfolding placeOf tableLength
 place-most n = rows-most n rows
 
-abbrev pub numbersOf : List Row → List ℕ
+abbrev numbersOf : List Row → List ℕ
 numbersOf l = map (λ r. r .number) l
 
 -- the row at the place of a number that is found has that number
