@@ -1,0 +1,5 @@
+pub mod Ring
+pub mod Registers
+pub mod Journeys
+pub mod Isolated
+pub mod Promise
