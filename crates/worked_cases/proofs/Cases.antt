@@ -35,8 +35,8 @@ use Rattle.net_journey.proofs.Whole.{every-journey, plays-the-journey}
 use Rattle.net_exchange.specs.Exchange.{Exchange}
 use Rattle.net_exchange.proofs.Exchange.{every-exchange}
 use Rattle.net_hop.specs.Tables.{netOf, tablesOf, tablesFit, setUp}
-use Rattle.net_journey.specs.Terms.{lastTelegram}
-use Rattle.net_dry_run.specs.DryRun.{runOutput, played, leaves, padded, ofCourse, dryRun}
+use Rattle.net_journey.specs.Terms.{beforeZero, lastTelegram}
+use Rattle.net_dry_run.specs.DryRun.{runOutput, played, leaves, padded, ofCourse, runOf, dryRun}
 use Rattle.net_report.specs.Text.{hexDigit, hexBytes, decimal, headLine, lineOf, line, lines, sentText, endingText, closing, courseText, refusedText, outrightText}
 use Rattle.net_report.specs.Report.{tellsCourse, reportOutput, reporting, toldOf}
 use Rattle.net_report.specs.Report as report
@@ -46,6 +46,7 @@ use Rattle.net_dry_run.proofs.Outputs.{length-padded}
 use Rattle.net_dry_run.proofs.Journeys.{runs-the-journey}
 use Rattle.worked_cases.specs.Holding.{_also_, none}
 use Rattle.worked_cases.specs.Cases.{factoryTables, factoryNet, Travels, Tells, Promised, answered, unanswered, Asked, WorkedCases}
+use Rattle.worked_cases.proofs.IsolationCases.{shows, at-destination, nobody-named, not-there, is-reply, alike-by, both-refused, unlike-at}
 use Rattle.worked_cases.proofs.GateCases.{gate-cases}
 
 -- all of an output that a dry run fills
@@ -135,7 +136,7 @@ module _ (addresses route : List ℕ) (rStart rCount wStart : ℕ) (values : Lis
   unreached-by some = record { written = written; exchange = exchanged; outcome = exchanged .unreached some }
 
 pub worked-cases : WorkedCases
-unfolding placed fitted wordsOf bytesOf sent doubled xorOver checked checkByte frameOf framing against afterStore byteOf dataOf eventOf insideOf noRoom receiveOf restOf storeOf waitingOf feed tableLength placeOf exists mayWrite takes factory runExists runMayWrite runTakes writes reads isAddress has distinctAddresses stations zeroEnds around goodBlock first next rolled rollLeft rollRight addressBytes headerBytes headerLength telegramOf bodyOf mayBegin isMark markByte markIs withMark markAgrees remarked rolledLeft rolledRight asReply sentBack allowed functionAt goodFor judged standardReading extendedReading reading judgedRuns judgedBody afterWrites replyWith replyBody isStation ifRoom relayed relaying replied answering acting stepping sendingBy hearing handling rightTables goodNet isThere allThere upToMissing tableAt withTable named addressee handler calling playing netOf tablesOf tablesFit setUp lastTelegram padded hexDigit hexBytes decimal headLine lineOf line lines sentText endingText closing courseText refusedText outrightText toldOf reporting requestBody goodRoute requestHead requestTelegram requesting judgedReply receiving routePlaces readOut unread opened openedBy replyReading
+unfolding placed fitted wordsOf bytesOf sent doubled xorOver checked checkByte frameOf framing against afterStore byteOf dataOf eventOf insideOf noRoom receiveOf restOf storeOf waitingOf feed tableLength placeOf exists mayWrite takes factory runExists runMayWrite runTakes writes reads isAddress has distinctAddresses stations zeroEnds around goodBlock first next rolled rollLeft rollRight addressBytes headerBytes headerLength telegramOf bodyOf mayBegin isMark markByte markIs withMark markAgrees remarked rolledLeft rolledRight asReply sentBack allowed functionAt goodFor judged standardReading extendedReading reading judgedRuns judgedBody afterWrites replyWith replyBody isStation ifRoom relayed relaying replied answering acting stepping sendingBy hearing handling rightTables goodNet isThere allThere upToMissing tableAt withTable named addressee handler calling playing netOf tablesOf tablesFit setUp lastTelegram padded ofCourse runOf dryRun beforeZero hexDigit hexBytes decimal headLine lineOf line lines sentText endingText closing courseText refusedText outrightText toldOf reporting requestBody goodRoute requestHead requestTelegram requesting judgedReply receiving routePlaces readOut unread opened openedBy replyReading
 worked-cases =
     refl also refl also refl
     also travels-by _ _ refl _ refl _ _ _ refl refl refl refl
@@ -163,5 +164,14 @@ worked-cases =
     also refl
     also refl also refl also refl also refl also refl also refl also refl also refl
     also refl also refl also refl also refl also refl also refl also refl
+    also (alike-by _ _ _ _ refl _ refl (at-destination refl) (shows refl refl) (shows refl refl)
+    also unlike-at _ _ _ _ _ _ _ _ 10 (shows refl refl) (shows refl refl) (λ e. let x : _≡_ {A = ℕ} 0x1E 0x07 = e in omega arith)
+    also alike-by _ _ _ _ refl _ refl (is-reply refl) (shows refl refl) (shows refl refl)
+    also alike-by _ _ _ _ refl _ refl (not-there refl) (shows refl refl) (shows refl refl)
+    also alike-by _ _ _ _ refl _ refl (at-destination refl) (shows refl refl) (shows refl refl)
+    also alike-by _ _ _ _ refl _ refl (at-destination refl) (shows refl refl) (shows refl refl)
+    also alike-by _ _ _ _ refl _ refl (nobody-named refl) (shows refl refl) (shows refl refl)
+    also both-refused _ _ _ _ 5 refl refl refl
+    also none)
     also gate-cases
     also none

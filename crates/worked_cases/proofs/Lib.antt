@@ -1,2 +1,3 @@
+pub mod IsolationCases
 pub mod GateCases
 pub mod Cases

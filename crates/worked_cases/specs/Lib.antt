@@ -1,3 +1,4 @@
 pub mod Holding
+pub mod IsolationCases
 pub mod GateCases
 pub mod Cases
