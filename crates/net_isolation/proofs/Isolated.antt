@@ -29,10 +29,10 @@ use Rattle.net_dry_run.specs.declared.DryRunAnswer.{DryRunAnswer}
 use Rattle.net_dry_run.specs.declared.DryRunAnswer.the-variants.{Played, Refused}
 use Rattle.net_dry_run.proofs.DryRuns.{not-set-up, too-long, output-short, run-by}
 use Rattle.net_dry_run.proofs.Journeys.{runs-the-journey}
-use Rattle.net_isolation.specs.Journeys.{SameAtDestination, SameCourse}
+use Rattle.net_isolation.specs.Journeys.{SameCourse}
 use Rattle.net_isolation.specs.Isolated.{IsPlayed, SameFirst, SameFilled, SameRun, SameLengths, Isolated, RefusedIsolated, NobodyIsolated, MissingIsolated, RepliesIsolated, CallsIsolated}
 use Rattle.net_isolation.proofs.Registers.{not-request}
-use Rattle.net_isolation.proofs.Journeys.{Asks, same-journeys}
+use Rattle.net_isolation.proofs.Journeys.{Asks, same-header, same-destination, alike-journeys}
 
 -- the first places of a list that has so many of its own
 take-own : (n : ℕ) (new old other : List ℕ) → n ≤ length new → take n (new ++ old) ≡ take n (new ++ other)
@@ -115,8 +115,8 @@ module _ (tg addresses tables tables′ out out′ : List ℕ) (lengths : SameLe
             let is-played : IsPlayed (one .outcome) = subst (λ (x : DryRun). IsPlayed (x .outcome)) (sym (r .gives)) tt in
             subst₂ SameRun (sym (r .gives)) (sym (s .gives))
             (same-course (r .journey .course) (s .journey .course)
-            (same-journeys tg (netOf addresses tables) (netOf addresses tables′) (good-net addresses tables set) (good-net addresses tables′ set′)
-            (addresses-of-net addresses tables ∙ sym (addresses-of-net addresses tables′)) (asks is-played) (r .journey .journey) (s .journey .journey)))
+            (alike-journeys tg (netOf addresses tables) (netOf addresses tables′) (good-net addresses tables set) (good-net addresses tables′ set′)
+            (addresses-of-net addresses tables ∙ sym (addresses-of-net addresses tables′)) (asks is-played) (r .journey .journey) (s .journey .journey) .shown))
 
       by-room : length tg ≤ maxTelegram → (less : Bool) → ltb (length out) runOutput ≡ less → SameRun one two
       by-room short true e =
@@ -136,16 +136,6 @@ module _ (tg addresses tables tables′ out out′ : List ℕ) (lengths : SameLe
 
     same-run : SameRun one two
     same-run = by-net (setUp addresses tables) refl
-
--- a telegram has one header
-same-header : {r : Reading} {h g : Head} → r ≡ sound h → r ≡ sound g → h ≡ g
-same-header e f = let x = sym e ∙ f in cc
-
--- so it is enough to look at that one's destination
-pub same-destination : (tg : List ℕ) (net net′ : Net) (h : Head) → reading Station tg ≡ sound h →
-    (let a = beforeZeros (h .block) in tableAt a net ≡ tableAt a net′) → SameAtDestination tg net net′
-same-destination tg net net′ h order same g e =
-    subst (λ (x : Head). (let a = beforeZeros (x .block) in tableAt a net ≡ tableAt a net′)) (same-header order e) same
 
 pub isolated : Isolated
 isolated tg addresses tables tables′ out out′ o =

@@ -2,12 +2,14 @@
 -- Assumes nothing.
 use mathlib.Core.Path.{_≡_, refl, sym, _∙_, ap, subst, subst₂}
 use mathlib.Core.Bool.{Bool, true, false}
-use mathlib.Core.List.{List, _∷_}
+use mathlib.Core.List.{List, [], _∷_}
 use Prim.Native.Nat.{ℕ, zero, suc, _+_}
 use native.Mathlib.Nat.{suc-ne-zero}
 use native.Mathlib.Omega.{arith}
+use borrow.Author.Tests.{eqb-true, eqb-false}
+use lib.Dec.{eqb}
 use lib.ListN.{length}
-use Rattle.mop_block.specs.Block.{has, goodBlock, first, rollLeft}
+use Rattle.mop_block.specs.Block.{has, goodBlock, first, next, rollLeft}
 use Rattle.mop_header.specs.Header.{Head, telegramOf, bodyOf, rolledLeft}
 use Rattle.mop_reader.specs.Reading.{Reading, sound, faulty, reading}
 use Rattle.mop_header.specs.declared.Function.{Function}
@@ -17,18 +19,20 @@ use Rattle.mop_reader.proofs.ReadBack.{is-written}
 use Rattle.mop_step.specs.Step.{Stepped, relays, answers, notMine, refuses, isStation, relayed, stepping}
 use Rattle.mop_step.proofs.Stations.{is-station}
 use Rattle.mop_station.specs.Station.{Handled, sent}
-use Rattle.net_journey.specs.Net.{Net, addressesOf, goodNet, isThere, tableAt}
+use Rattle.mop_station.specs.Station as station
+use Rattle.net_journey.specs.Net.{Net, addressesOf, goodNet, isThere, tableAt, withTable}
 use Rattle.net_journey.specs.Journey.{Ending, atZero, atNobody, refusedWith, Course, unheard, onward, callOutput, Journey}
 use Rattle.net_journey.specs.Terms.{beforeZeros}
 use Rattle.net_journey.specs.Bounded.{playing}
-use Rattle.net_journey.proofs.Net.{addresses-with, good-table, good-address}
+use Rattle.net_journey.proofs.Net.{table-other, table-same, addresses-with, good-table, good-address}
 use Rattle.net_journey.proofs.Telegrams.{sound-faultless}
+use Rattle.net_journey.proofs.Whole.{every-journey}
 use Rattle.net_journey.proofs.Steps.{ends-faulty}
 use Rattle.net_journey.proofs.Bounded.{plays}
 use Rattle.net_journey.proofs.Walks.{walk-zero, walk-nobody, walk-relayed, walk-answered, walk-refused, never-another}
-use Rattle.net_isolation.specs.Journeys.{SameCourse, JourneysIsolated}
+use Rattle.net_isolation.specs.Journeys.{SameAtDestination, SameCourse, JourneysIsolated, TablesIsolated}
 use Rattle.net_isolation.proofs.Ring.{destination-first, destination-stays}
-use Rattle.net_isolation.proofs.Registers.{not-request, step-same, step-relays}
+use Rattle.net_isolation.proofs.Registers.{not-request, step-same, step-relays, step-answers}
 
 -- what is asked of two tables of the destination: that they are the same, for a request with a station first
 abbrev pub Asks : Head → Net → Net → Type 0
@@ -41,18 +45,41 @@ record Agree (net net′ : Net) (h : Head) : Type 0 where
   stations : addressesOf net ≡ addressesOf net′
   table : Asks h net net′
 
--- the same courses, said of equal ones, and with one more transmission before them
-same-as : {c c′ d d′ : Course} → c ≡ c′ → d ≡ d′ → SameCourse c′ d′ → SameCourse c d
-same-as e f s = subst₂ SameCourse (sym e) (sym f) s
+-- stations with the same table have the same one in two nets that come of these
+abbrev Kept : Net → Net → Net → Net → Type 0
+Kept net net′ after after′ = (b : ℕ) → tableAt b net ≡ tableAt b net′ → tableAt b after ≡ tableAt b after′
 
-same-unheard : (tg : List ℕ) (net net′ : Net) (e : Ending) → SameCourse (unheard tg net e) (unheard tg net′ e)
-same-unheard tg net net′ e = record { transmissions = refl; answers = refl; ending = refl }
+kept-with : (a : ℕ) {t t′ : List ℕ} (net net′ : Net) → t ≡ t′ → isThere a net ≡ true → isThere a net′ ≡ true → Kept net net′ (withTable a t net) (withTable a t′ net′)
+kept-with a {t} {t′} net net′ e there there′ b same = go (eqb b a) refl
+  where
+    go : (here : Bool) → eqb b a ≡ here → tableAt b (withTable a t net) ≡ tableAt b (withTable a t′ net′)
+    go true is = rw (eqb-true b a is) (table-same a t net there ∙ e ∙ sym (table-same a t′ net′ there′))
+    go false is =
+        let apart = eqb-false b a is in
+        table-other a b t net apart ∙ same ∙ sym (table-other a b t′ net′ apart)
 
-same-onward : (tg : List ℕ) (n : ℕ) {c d : Course} → SameCourse c d → SameCourse (onward tg n c) (onward tg n d)
-same-onward tg n s = record {
-  transmissions = ap (λ (l : List (List ℕ)). tg ∷ l) (s .transmissions);
-  answers = ap (λ (l : List Handled). sent n ∷ l) (s .answers);
-  ending = s .ending;
+-- two courses from two nets: they show the same, and keep what is the same
+pub record Alike (net net′ : Net) (c d : Course) : Type 0 where
+  pub shown : SameCourse c d
+  pub kept : Kept net net′ (c .after) (d .after)
+
+-- said of equal courses; one transmission, and one more before the others
+alike-as : {net net′ : Net} {c c′ d d′ : Course} → c ≡ c′ → d ≡ d′ → Alike net net′ c′ d′ → Alike net net′ c d
+alike-as {net} {net′} e f s = subst₂ (Alike net net′) (sym e) (sym f) s
+
+alike-last : (tg : List ℕ) (net net′ : Net) (given : List Handled) (e : Ending) →
+    Alike net net′ (record { transmissions = tg ∷ []; answers = given; after = net; ending = e }) (record { transmissions = tg ∷ []; answers = given; after = net′; ending = e })
+alike-last tg net net′ given e = record { shown = record { transmissions = refl; answers = refl; ending = refl }; kept = λ b same. same }
+
+alike-onward : (tg : List ℕ) (k : ℕ) {net net′ n n′ : Net} {c d : Course} → Kept net net′ n n′ → Alike n n′ c d →
+    Alike net net′ (onward tg k c) (onward tg k d)
+alike-onward tg k between s = record {
+  shown = record {
+    transmissions = ap (λ (l : List (List ℕ)). tg ∷ l) (s .shown .transmissions);
+    answers = ap (λ (l : List Handled). sent k ∷ l) (s .shown .answers);
+    ending = s .shown .ending;
+  };
+  kept = λ b same. s .kept b (between b same);
 }
 
 -- the block of a request that is relayed
@@ -64,10 +91,10 @@ relayed-block Reply h e = absurd (not-request e)
 -- one hop, in both nets; the k hops behind it are the same
 module _ (k : ℕ)
     (later : (net net′ : Net) (h : Head) (body : List ℕ) → Agree net net′ h → reading Station (telegramOf h body) ≡ sound h →
-    SameCourse (playing k net (telegramOf h body)) (playing k net′ (telegramOf h body)))
+    Alike net net′ (playing k net (telegramOf h body)) (playing k net′ (telegramOf h body)))
     (net net′ : Net) (h : Head) (body : List ℕ) (agree : Agree net net′ h) (order : reading Station (telegramOf h body) ≡ sound h) where
   abbrev Same : Type 0
-  Same = SameCourse (playing (suc k) net (telegramOf h body)) (playing (suc k) net′ (telegramOf h body))
+  Same = Alike net net′ (playing (suc k) net (telegramOf h body)) (playing (suc k) net′ (telegramOf h body))
 
   there-same : (a : ℕ) → isThere a net′ ≡ isThere a net
   unfolding isThere
@@ -84,11 +111,15 @@ module _ (k : ℕ)
     set-in : (n : Net) → goodNet n ≡ true → isThere a n ≡ true → isStation a (tableAt a n) ≡ true
     set-in n good is = is-station a (tableAt a n) (good-address a n good is) (good-table a n good is)
 
+    -- the destination has the same table in both
+    table-here : h .function ≡ Request → next (h .block) ≡ 0 → tableAt a net ≡ tableAt a net′
+    table-here request last =
+        subst (λ (d : ℕ). tableAt d net ≡ tableAt d net′) (destination-first (h .block) good-block some last ∙ mine) (agree .table request some)
+
     steps-same : stepping a h body (tableAt a net) callOutput .stepped ≡ stepping a h body (tableAt a net′) callOutput .stepped
     steps-same =
         step-same h body callOutput a (tableAt a net) (tableAt a net′) (set-in net (agree .good) there) (set-in net′ (agree .good′) there′) mine
-        (λ request last. subst (λ (d : ℕ). tableAt d net ≡ tableAt d net′) (destination-first (h .block) good-block some last ∙ mine)
-        (agree .table request some))
+        table-here
 
     relay-agrees : {g : Head} → stepping a h body (tableAt a net) callOutput .stepped ≡ relays g → g .function ≡ h .function → Agree net net′ g
     relay-agrees {g} e function =
@@ -108,13 +139,15 @@ module _ (k : ℕ)
     by-step (relays g) e =
         let r = walk-relayed net h body order (agree .good) a mine there refl e in
         let s = walk-relayed net′ h body order (agree .good′) a mine there′ refl (sym steps-same ∙ e) in
-        same-as (r .plays k) (s .plays k)
-        (same-onward (telegramOf h body) (length (telegramOf g body)) (later net net′ g body (relay-agrees e (r .function)) (r .order)))
+        alike-as (r .plays k) (s .plays k)
+        (alike-onward (telegramOf h body) (length (telegramOf g body)) (λ b same. same) (later net net′ g body (relay-agrees e (r .function)) (r .order)))
     by-step (answers g reply) e =
         let r = walk-answered net h body order (agree .good) a mine there refl e in
         let s = walk-answered net′ h body order (agree .good′) a mine there′ refl (sym steps-same ∙ e) in
-        same-as (r .plays k) (s .plays k)
-        (same-onward (telegramOf h body) (length (telegramOf g reply)) (later _ _ g reply
+        let who = step-answers h body callOutput (tableAt a net) a (set-in net (agree .good) there) mine e in
+        let written = ap (λ (t : List ℕ). stepping a h body t callOutput .registers) (table-here (who .0) (who .1)) in
+        alike-as (r .plays k) (s .plays k)
+        (alike-onward (telegramOf h body) (length (telegramOf g reply)) (kept-with a net net′ written there there′) (later _ _ g reply
         (record {
           good = r .fit;
           good′ = s .fit;
@@ -125,44 +158,79 @@ module _ (k : ℕ)
     by-step (refuses j) e =
         let r = walk-refused net h body order (agree .good) a mine there refl e in
         let s = walk-refused net′ h body order (agree .good′) a mine there′ refl (sym steps-same ∙ e) in
-        same-as (r .plays k) (s .plays k) (record { transmissions = refl; answers = refl; ending = refl })
+        alike-as (r .plays k) (s .plays k) (alike-last (telegramOf h body) net net′ (station.refuses j ∷ []) (refusedWith j))
     by-step notMine e = absurd (never-another net h body order (agree .good) a mine there refl e)
 
   by-there : (a : ℕ) → first (h .block) ≡ a → (a ≡ 0 → ⊥) → (there : Bool) → isThere a net ≡ there → Same
   by-there a mine some true is =
       by-step a mine (λ z. some (sym mine ∙ z)) is (stepping a h body (tableAt a net) callOutput .stepped) refl
   by-there a mine some false is =
-      same-as (walk-nobody net h body order a mine some is k) (walk-nobody net′ h body order a mine some (there-same a ∙ is) k)
-      (same-unheard (telegramOf h body) net net′ atNobody)
+      alike-as (walk-nobody net h body order a mine some is k) (walk-nobody net′ h body order a mine some (there-same a ∙ is) k)
+      (alike-last (telegramOf h body) net net′ [] atNobody)
 
   by-first : (a : ℕ) → first (h .block) ≡ a → Same
-  by-first zero mine = same-as (walk-zero net h body order mine k) (walk-zero net′ h body order mine k) (same-unheard (telegramOf h body) net net′ atZero)
+  by-first zero mine = alike-as (walk-zero net h body order mine k) (walk-zero net′ h body order mine k) (alike-last (telegramOf h body) net net′ [] atZero)
   by-first (suc p) mine = by-there (suc p) mine (suc-ne-zero p) (isThere (suc p) net) refl
 
 same-from : (k : ℕ) (net net′ : Net) (h : Head) (body : List ℕ) → Agree net net′ h → reading Station (telegramOf h body) ≡ sound h →
-    SameCourse (playing k net (telegramOf h body)) (playing k net′ (telegramOf h body))
+    Alike net net′ (playing k net (telegramOf h body)) (playing k net′ (telegramOf h body))
 unfolding playing
-same-from zero net net′ h body agree order = same-unheard (telegramOf h body) net net′ atZero
+same-from zero net net′ h body agree order = alike-last (telegramOf h body) net net′ [] atZero
 same-from (suc k) net net′ h body agree order = by-first k (same-from k) net net′ h body agree order (first (h .block)) refl
 
 -- the journeys of any telegram in two good nets with the same stations
 module _ (tg : List ℕ) (net net′ : Net) (good : goodNet net ≡ true) (good′ : goodNet net′ ≡ true) (stations : addressesOf net ≡ addressesOf net′)
     (asks : (h : Head) → reading Station tg ≡ sound h → Asks h net net′) where
-  read-same : (k : ℕ) (r : Reading) → reading Station tg ≡ r → SameCourse (playing (suc k) net tg) (playing (suc k) net′ tg)
+  read-same : (k : ℕ) (r : Reading) → reading Station tg ≡ r → Alike net net′ (playing (suc k) net tg) (playing (suc k) net′ tg)
   read-same k (faulty j) e =
-      same-as (plays (suc k) (ends-faulty net tg j e) (omega arith)) (plays (suc k) (ends-faulty net′ tg j e) (omega arith))
-      (same-unheard tg net net′ (refusedWith j))
+      alike-as (plays (suc k) (ends-faulty net tg j e) (omega arith)) (plays (suc k) (ends-faulty net′ tg j e) (omega arith))
+      (alike-last tg net net′ [] (refusedWith j))
   read-same k (sound h) e =
       let whole = is-written Station tg h e .whole in
-      subst (λ (x : List ℕ). SameCourse (playing (suc k) net x) (playing (suc k) net′ x)) whole
+      subst (λ (x : List ℕ). Alike net net′ (playing (suc k) net x) (playing (suc k) net′ x)) whole
       (same-from (suc k) net net′ h (bodyOf h tg) (record { good = good; good′ = good′; stations = stations; table = asks h e })
       (ap (reading Station) whole ∙ e))
 
-  pub same-journeys : {c d : Course} → Journey net tg c → Journey net′ tg d → SameCourse c d
-  same-journeys {c} {d} i j =
+  pub alike-journeys : {c d : Course} → Journey net tg c → Journey net′ tg d → Alike net net′ c d
+  alike-journeys {c} {d} i j =
       let both = length (c .transmissions) + length (d .transmissions) in
-      subst₂ SameCourse (plays (suc both) i (omega arith)) (plays (suc both) j (omega arith)) (read-same both (reading Station tg) refl)
+      subst₂ (Alike net net′) (plays (suc both) i (omega arith)) (plays (suc both) j (omega arith)) (read-same both (reading Station tg) refl)
+
+-- a telegram has one header
+pub same-header : {r : Reading} {h g : Head} → r ≡ sound h → r ≡ sound g → h ≡ g
+same-header e f = let x = sym e ∙ f in cc
+
+-- so it is enough to look at that one's destination
+pub same-destination : (tg : List ℕ) (net net′ : Net) (h : Head) → reading Station tg ≡ sound h →
+    (let a = beforeZeros (h .block) in tableAt a net ≡ tableAt a net′) → SameAtDestination tg net net′
+same-destination tg net net′ h order same g e =
+    subst (λ (x : Head). (let a = beforeZeros (x .block) in tableAt a net ≡ tableAt a net′)) (same-header order e) same
 
 pub journeys-isolated : JourneysIsolated
 journeys-isolated tg net net′ c d good good′ stations same i j =
-    same-journeys tg net net′ good good′ stations (λ h e request some. same h e) i j
+    alike-journeys tg net net′ good good′ stations (λ h e request some. same h e) i j .shown
+
+-- the destination by what it had, and the others since they keep their tables
+module _ (tg : List ℕ) (net net′ : Net) (c d : Course) (good : goodNet net ≡ true) (good′ : goodNet net′ ≡ true) (stations : addressesOf net ≡ addressesOf net′)
+    (i : Journey net tg c) (j : Journey net′ tg d) (a : ℕ) (same : tableAt a net ≡ tableAt a net′) where
+  table-kept : (n : Net) → goodNet n ≡ true → {x : Course} → Journey n tg x → (h : Head) → reading Station tg ≡ sound h → (a ≡ beforeZeros (h .block) → ⊥) →
+      tableAt a (x .after) ≡ tableAt a n
+  table-kept n fit {x} k h order other =
+      let the = every-journey n tg fit in
+      ap (λ (y : Course). tableAt a (y .after)) (the .only x k) ∙ the .demand3 .others-kept h order a other
+
+  at-station : (h : Head) → reading Station tg ≡ sound h → (here : Bool) → eqb a (beforeZeros (h .block)) ≡ here → tableAt a (c .after) ≡ tableAt a (d .after)
+  at-station h order true is =
+      let here = subst (λ (b : ℕ). tableAt b net ≡ tableAt b net′) (eqb-true a (beforeZeros (h .block)) is) same in
+      alike-journeys tg net net′ good good′ stations (λ g e request some. same-destination tg net net′ h order here g e) i j .kept a same
+  at-station h order false is =
+      let other = eqb-false a (beforeZeros (h .block)) is in
+      table-kept net good i h order other ∙ same ∙ sym (table-kept net′ good′ j h order other)
+
+  after-same : (r : Reading) → reading Station tg ≡ r → tableAt a (c .after) ≡ tableAt a (d .after)
+  after-same (sound h) order = at-station h order (eqb a (beforeZeros (h .block))) refl
+  after-same (faulty k) fault =
+      alike-journeys tg net net′ good good′ stations (λ h e. let x = sym fault ∙ e in let z : _≡_ {A = ℕ} 0 1 = cc in absurd (omega arith)) i j .kept a same
+
+pub tables-isolated : TablesIsolated
+tables-isolated tg net net′ c d good good′ stations i j a same = after-same tg net net′ c d good good′ stations i j a same (reading Station tg) refl

@@ -80,3 +80,25 @@ module _ (h : Head) (body : List ℕ) (room : ℕ) where
         (g ≡ relayed (h .function) h) × (h .function ≡ Request → next (h .block) ≡ 0 → ⊥)
     step-relays own set mine e =
         act-relays (h .function) (next (h .block)) (ap (λ (s : Step). s .stepped) (sym (for-this own h body t room set mine)) ∙ e)
+
+    relay-no-answer : (short : Bool) (on : Head) (reply : List ℕ) → pick short (step (refuses 11) t) (step (relays on) t) .stepped ≡ answers g reply → ⊥
+    relay-no-answer true on reply e = let x : _≡_ {A = ℕ} 0 1 = cc in omega arith
+    relay-no-answer false on reply e = let x : _≡_ {A = ℕ} 0 1 = cc in omega arith
+
+    relaying-no-answer : (reply : List ℕ) → relaying h body t room .stepped ≡ answers g reply → ⊥
+    unfolding relaying ifRoom
+    relaying-no-answer reply e =
+        let on = relayed (h .function) h in
+        relay-no-answer (ltb room (length (telegramOf on body))) on reply e
+
+    act-answers : (f : Function) (n : ℕ) (reply : List ℕ) → acting f n h body t room .stepped ≡ answers g reply → (f ≡ Request) × (n ≡ 0)
+    unfolding acting
+    act-answers Request zero reply e = (refl, refl)
+    act-answers Request (suc n) reply e = absurd (relaying-no-answer reply e)
+    act-answers Reply n reply e = absurd (relaying-no-answer reply e)
+
+    -- who answers: a station with a 00 behind the first entry, to a request
+    pub step-answers : (own : ℕ) → isStation own t ≡ true → first (h .block) ≡ own → {reply : List ℕ} → stepping own h body t room .stepped ≡ answers g reply →
+        (h .function ≡ Request) × (next (h .block) ≡ 0)
+    step-answers own set mine {reply} e =
+        act-answers (h .function) (next (h .block)) reply (ap (λ (s : Step). s .stepped) (sym (for-this own h body t room set mine)) ∙ e)

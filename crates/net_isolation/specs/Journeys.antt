@@ -28,3 +28,10 @@ abbrev pub JourneysIsolated : Type 0
 JourneysIsolated =
     (tg : List ℕ) (net net′ : Net) (c d : Course) → goodNet net ≡ true → goodNet net′ ≡ true → addressesOf net ≡ addressesOf net′ →
     SameAtDestination tg net net′ → Journey net tg c → Journey net′ tg d → SameCourse c d
+
+-- and whatever the tables of the destination, a station with the same table in both nets has the same one in both afterwards: no
+-- register gets from one station to another, from where a later telegram could fetch it
+abbrev pub TablesIsolated : Type 0
+TablesIsolated =
+    (tg : List ℕ) (net net′ : Net) (c d : Course) → goodNet net ≡ true → goodNet net′ ≡ true → addressesOf net ≡ addressesOf net′ →
+    Journey net tg c → Journey net′ tg d → (a : ℕ) → tableAt a net ≡ tableAt a net′ → tableAt a (c .after) ≡ tableAt a (d .after)

@@ -16,7 +16,8 @@ use Rattle.net_journey.specs.Terms.{m, beforeZeros}
 use Rattle.net_hop.specs.Tables.{netOf}
 use Rattle.net_dry_run.specs.DryRun.{played, outright, DryRun, runOutput, padded}
 use Rattle.net_isolation.specs.Isolated.{IsPlayed, SameRun, SameLengths}
-use Rattle.net_isolation.proofs.Isolated.{same-destination, isolated, refused-isolated, nobody-isolated, missing-isolated, replies-isolated}
+use Rattle.net_isolation.proofs.Journeys.{same-destination}
+use Rattle.net_isolation.proofs.Isolated.{isolated, refused-isolated, nobody-isolated, missing-isolated, replies-isolated}
 use Rattle.worked_cases.specs.IsolationCases.{inOne, inOther, Shows, Alike, BothRefused, Unlike}
 
 pub shows : {r : DryRun} {count : ℕ} {e : Ending} {last : List ℕ} → r .outcome ≡ played count e (length last) → take runOutput (r .output) ≡ padded last →
