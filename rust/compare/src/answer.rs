@@ -5,6 +5,11 @@ pub const KIND_NOT_MINE: u8 = 255;
 /// The answer of such a call.
 pub const NOT_MINE: u64 = refused(KIND_NOT_MINE);
 
+/// The kind of two calls that had to be alike, and are not. No call has it by itself.
+pub const KIND_NOT_ALIKE: u8 = 254;
+/// The answer of such calls.
+pub const NOT_ALIKE: u64 = refused(KIND_NOT_ALIKE);
+
 /// The call did what it was asked to.
 #[inline(always)]
 pub const fn done(value: usize) -> u64 {
@@ -17,7 +22,8 @@ pub const fn refused(number: u8) -> u64 {
     (number as u64) << 32
 }
 
-/// The kind of an answer: 0 for done, 255 for not mine, or the number of a refusal.
+/// The kind of an answer: 0 for done, 255 for not mine, 254 for not alike, or the number of a
+/// refusal.
 pub const fn kind(answer: u64) -> u8 {
     (answer >> 32) as u8
 }
@@ -32,6 +38,7 @@ pub fn text(answer: u64, done: &str) -> String {
     match kind(answer) {
         0 => format!("{done} {}", value(answer)),
         KIND_NOT_MINE => "not mine".into(),
+        KIND_NOT_ALIKE => "not alike".into(),
         number => format!("refused {number}"),
     }
 }

@@ -1,5 +1,6 @@
 //! Gives every input to the implementations, compares, and counts what was reached.
 
+use crate::answer;
 use crate::call::{Call, Outcome, Stop};
 use crate::inputs::Random;
 use crate::lent::AROUND;
@@ -120,27 +121,35 @@ impl Driver {
     /// Makes one call of the library and of the plain Rust, and compares both with the reference.
     pub fn compare<C: Call>(&mut self, input: &C) -> Result<Outcome<C>, Stop> {
         let tested = [("the proved library", C::LIBRARY), ("the plain Rust", C::PLAIN)];
-        let outcome = self.check(input, &tested).map_err(|wrong| Stop::Wrong(wrong.1))?;
+        let outcome = self.check(input, C::REFERENCE, &tested).map_err(|wrong| Stop::Wrong(wrong.1))?;
         match self.calls.is_multiple_of(CALLS_PER_LOOK) && self.is_over() {
             true => Err(Stop::TimeOver),
             false => Ok(outcome),
         }
     }
 
-    /// Makes one call of these implementations, and compares them with the reference.
-    fn check<C: Call>(&mut self, input: &C, tested: &[(&str, C::Function)]) -> Result<Outcome<C>, Wrong<C>> {
+    /// Makes one call of these implementations, and compares them with a reference, which is judged
+    /// by the kinds.
+    fn check<C: Call>(
+        &mut self,
+        input: &C,
+        reference: C::Function,
+        tested: &[(&str, C::Function)],
+    ) -> Result<Outcome<C>, Wrong<C>> {
         let around = AROUND[(self.calls % AROUND.len() as u64) as usize];
-        let right = input.outcome(C::REFERENCE, around);
+        let right = input.outcome(reference, around);
         for &(name, function) in tested {
             if input.outcome(function, around) != right {
                 return Err(self.difference(name, input, around, |input| {
-                    input.outcome(function, around).wrong(&input.outcome(C::REFERENCE, around))
+                    input.outcome(function, around).wrong(&input.outcome(reference, around))
                 }));
             }
         }
         let Some(kind) = kind_of(input, &right) else {
             return Err(self.difference("the reference", input, around, |input| {
-                kind_of(input, &input.outcome(C::REFERENCE, around)).is_none().then(|| "an answer of no kind".into())
+                let outcome = input.outcome(reference, around);
+                let told = || format!("an answer of no kind: {}", answer::text(outcome.answer, "done"));
+                kind_of(input, &outcome).is_none().then(told)
             }));
         };
         self.calls += 1;
@@ -209,10 +218,22 @@ fn kind_of<C: Call>(input: &C, outcome: &Outcome<C>) -> Option<usize> {
 /// gives the smallest input found.
 #[cfg(test)]
 pub fn found<C: Call>(what: &str, wrong: C::Function) -> C {
+    find("wrong", what, C::REFERENCE, &[("plain", C::PLAIN), ("wrong", wrong)])
+}
+
+/// The same of a mistake that all implementations make alike, the reference too: only an answer of
+/// no kind tells it.
+#[cfg(test)]
+pub fn found_in_all<C: Call>(what: &str, wrong: C::Function) -> C {
+    find("the reference", &format!("an answer of no kind: {what}"), wrong, &[("wrong", wrong)])
+}
+
+/// Checks that the inputs find what is wrong with one of several implementations.
+#[cfg(test)]
+fn find<C: Call>(name: &str, what: &str, reference: C::Function, tested: &[(&str, C::Function)]) -> C {
     let (mut driver, mut found) = (Driver::new(None), None);
-    let tested = [("plain", C::PLAIN), ("wrong", wrong)];
     let end = C::generate(&mut Random::new(3964), &mut |input| {
-        driver.check(input, &tested).map_err(|wrong| {
+        driver.check(input, reference, tested).map_err(|wrong| {
             found = Some(*wrong);
             Stop::TimeOver
         })
@@ -220,7 +241,8 @@ pub fn found<C: Call>(what: &str, wrong: C::Function) -> C {
     assert!(end.is_err(), "nothing was found in the call {}", C::NAME);
     let (smallest, text) = found.expect("a difference");
     println!("{text}\n");
-    assert!(text.starts_with("WRONG: wrong,") && text.contains(&format!("wrong in it: {what}")), "{text}");
+    assert!(text.starts_with(&format!("WRONG: {name},")), "{text}");
+    assert!(text.contains(&format!("wrong in it: {what}")), "{text}");
     smallest
 }
 

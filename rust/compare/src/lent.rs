@@ -53,15 +53,25 @@ pub struct Lent<T> {
     front: usize,
     /// The slice with its guards.
     all: Vec<T>,
-    /// What an output holds before a call does not matter.
-    is_output: bool,
+    /// What an output holds before a call does not matter; this is the byte at its first place.
+    output: Option<u8>,
 }
 
 impl<T: Word> Lent<T> {
     /// An output of so many places, of which no two near each other hold the same.
     pub fn output(places: usize) -> Lent<T> {
-        let before = (0..places).map(|place| T::all((place * 29 + 0xA1) as u8));
-        Lent { is_output: true, ..before.collect::<Vec<T>>().into() }
+        Lent::output_of(0xA1, places)
+    }
+
+    /// An output that holds something else than the other at every place.
+    pub fn other_output(places: usize) -> Lent<T> {
+        Lent::output_of(0x5C, places)
+    }
+
+    /// An output of so many places, the first of which holds this byte.
+    fn output_of(first: u8, places: usize) -> Lent<T> {
+        let before = (0..places).map(|place| T::all((place * 29 + usize::from(first)) as u8));
+        Lent { output: Some(first), ..before.collect::<Vec<T>>().into() }
     }
 
     /// Changes the slice, and its length if need be.
@@ -76,7 +86,7 @@ impl<T: Word> From<&[T]> for Lent<T> {
     fn from(content: &[T]) -> Lent<T> {
         let mut all = vec![T::of(0); content.len() + GUARDS];
         all[GUARD..GUARD + content.len()].copy_from_slice(content);
-        Lent { front: GUARD, all, is_output: false }
+        Lent { front: GUARD, all, output: None }
     }
 }
 
@@ -130,21 +140,21 @@ impl<T: Word> Field for T {
 
 impl<T: Word> Field for Lent<T> {
     fn numbers(&self) -> Vec<u64> {
-        match self.is_output {
-            true => vec![self.len() as u64],
-            false => self.iter().map(|word| word.number()).collect(),
+        match self.output {
+            Some(_) => vec![self.len() as u64],
+            None => self.iter().map(|word| word.number()).collect(),
         }
     }
 
     fn set(&mut self, numbers: &[u64]) {
-        *self = match self.is_output {
-            true => Lent::output(numbers[0] as usize),
-            false => numbers.iter().map(|&number| T::of(number)).collect::<Vec<T>>().into(),
+        *self = match self.output {
+            Some(first) => Lent::output_of(first, numbers[0] as usize),
+            None => numbers.iter().map(|&number| T::of(number)).collect::<Vec<T>>().into(),
         };
     }
 
     fn can_be_shortened(&self) -> bool {
-        !self.is_output
+        self.output.is_none()
     }
 
     /// How many guards stand before the slice goes by its length and by the byte, so that slices
@@ -205,6 +215,17 @@ mod tests {
             assert_eq!((word.number(), i32::of(number)), (number, word));
         }
         assert_eq!(i32::all(0xEF).to_ne_bytes(), [0xEF; 4]);
+    }
+
+    #[test]
+    fn outputs_differ_at_every_place() {
+        let (mut output, mut other) = (Lent::<u8>::output(300), Lent::<u8>::other_output(300));
+        for places in [300, 299] {
+            output.set(&[places]);
+            other.set(&[places]);
+            assert_eq!((output.numbers(), other.numbers()), (vec![places], vec![places]));
+            assert!(output.iter().zip(&*other).all(|(one, other)| one != other));
+        }
     }
 
     #[test]

@@ -1386,54 +1386,92 @@ mod tests {
         assert_eq!(played, (5 + 13 + 17 + 21) * 4 * 2);
     }
 
+    /// A case in any form, and the addresses of a net.
+    fn random_case(random: &mut Random) -> (Case, Vec<u8>) {
+        let extended = random.below(3) != 0;
+        let n = if extended { 2 + random.below(31) } else { 4 };
+        let m = random.below(n);
+        let mut everybody: Vec<u8> = (0x01..=0xF0).collect();
+        random.shuffle(&mut everybody);
+        let route = everybody[..m].to_vec();
+
+        // The net has all of the route, or all but one, or nearly nothing of it.
+        let strangers = random.below(64 - m + 1);
+        let mut addresses = everybody[..m + strangers].to_vec();
+        match random.below(4) {
+            0 if m > 0 => {
+                addresses.remove(random.below(m));
+            }
+            1 if m > 0 => {
+                addresses.drain(1..m);
+            }
+            _ => {}
+        }
+        random.shuffle(&mut addresses);
+
+        let case = Case {
+            function: random.pick(&[0x60, 0x60, 0xE0]),
+            control: random.next() as u8,
+            extended,
+            route,
+            n,
+            at: if random.below(2) == 0 {
+                0
+            } else {
+                random.below(n)
+            },
+            refused: random.pick(&[None, None, None, Some(7), Some(8), Some(9), Some(10)]),
+        };
+        (case, addresses)
+    }
+
     #[test]
     fn random_journeys_by_the_rule() {
         let mut random = Random(0x0064_0018);
         let mut endings = [0; 3];
         for _ in 0..4_000 {
-            let extended = random.below(3) != 0;
-            let n = if extended { 2 + random.below(31) } else { 4 };
-            let m = random.below(n);
-            let mut everybody: Vec<u8> = (0x01..=0xF0).collect();
-            random.shuffle(&mut everybody);
-            let route = everybody[..m].to_vec();
-
-            // The net has all of the route, or all but one, or nearly nothing of it.
-            let strangers = random.below(64 - m + 1);
-            let mut addresses = everybody[..m + strangers].to_vec();
-            match random.below(4) {
-                0 if m > 0 => {
-                    addresses.remove(random.below(m));
-                }
-                1 if m > 0 => {
-                    addresses.drain(1..m);
-                }
-                _ => {}
-            }
-            random.shuffle(&mut addresses);
-
-            let case = Case {
-                function: random.pick(&[0x60, 0x60, 0xE0]),
-                control: random.next() as u8,
-                extended,
-                route,
-                n,
-                at: if random.below(2) == 0 {
-                    0
-                } else {
-                    random.below(n)
-                },
-                refused: random.pick(&[None, None, None, Some(7), Some(8), Some(9), Some(10)]),
-            };
+            let (case, addresses) = random_case(&mut random);
             let journey = case.check(&addresses);
             endings[match journey.ending {
                 Ending::EmptyEntry => 0,
                 Ending::UnknownAddress => 1,
                 Ending::Refused(_) => 2,
             }] += 1;
-            assert!(journey.telegrams.len() <= (2 * m).max(1));
+            assert!(journey.telegrams.len() <= (2 * case.route.len()).max(1));
         }
         assert!(endings.iter().all(|&seen| seen > 300), "{endings:?}");
+    }
+
+    /// Plays a telegram in two nets, in which all registers differ but those of one station.
+    fn check_pair(random: &mut Random, telegram: &[u8], addresses: &[u8], station: Option<u8>) {
+        let mut tables = odd_tables(addresses.len());
+        let mut others = tables.clone();
+        for (&own, table) in addresses.iter().zip(others.chunks_exact_mut(COUNT)) {
+            if Some(own) != station {
+                table.fill_with(|| random.next() as u16 & 0x3FFF);
+            }
+        }
+        for room in [1023, 1024, 1500] {
+            let run = dry(telegram, addresses, &mut tables.clone(), room);
+            assert_eq!(run, dry(telegram, addresses, &mut others.clone(), room));
+        }
+        // All that goes over the air is the same.
+        let course = journey(telegram, addresses, &mut tables);
+        assert_eq!(course, journey(telegram, addresses, &mut others));
+    }
+
+    #[test]
+    fn registers_of_others_do_not_matter() {
+        let mut random = Random(0x0055_1213);
+        for _ in 0..4_000 {
+            // The destination is the last of the route, wherever the telegram is on its way.
+            let (case, addresses) = random_case(&mut random);
+            let destination = case.route.last().copied();
+            check_pair(&mut random, &case.first(), &addresses, destination);
+        }
+        for (telegram, _) in faulty() {
+            check_pair(&mut random, &telegram, &scattered(64), None);
+        }
     }
 
     #[test]

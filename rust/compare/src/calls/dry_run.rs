@@ -25,7 +25,7 @@ arguments!(DryRun, hanraquin_dry_run {
 const RESULT: usize = 3;
 
 /// Most transmissions of a journey.
-const TRANSMISSIONS: usize = 62;
+pub(super) const TRANSMISSIONS: usize = 62;
 
 fn reference(telegram: &[u8], addresses: &[u8], tables: &mut [u16], out: &mut [u8], result: &mut [u32]) -> u64 {
     if result.len() != RESULT {
@@ -46,6 +46,23 @@ fn reference(telegram: &[u8], addresses: &[u8], tables: &mut [u16], out: &mut [u
 }
 
 impl DryRun {
+    /// Whether an address is out of range.
+    fn has_bad_address(&self) -> bool {
+        !self.addresses.iter().all(|&address| is_address(address))
+    }
+
+    /// Whether an address is there twice.
+    fn has_address_twice(&self) -> bool {
+        (0..self.addresses.len()).any(|i| self.addresses[..i].contains(&self.addresses[i]))
+    }
+
+    /// Whether neither 1 nor 11 applies: the net, the output and the result are as they have to be.
+    pub(super) fn is_set_up(&self) -> bool {
+        let net = self.addresses.len() <= STATIONS_MAX && !self.has_bad_address() && !self.has_address_twice();
+        let tables = self.tables.len() == REGISTERS * self.addresses.len();
+        net && tables && self.out.len() >= TELEGRAM && self.result.len() == RESULT
+    }
+
     /// The dry run without a station and its table.
     fn without(&self, station: usize) -> DryRun {
         let mut run = self.clone();
@@ -79,13 +96,8 @@ impl Call for DryRun {
         ("ended with refusal 10", |_, o| ended(o, 10, 1..=31)),
         ("refused 1, places of the result", |run, o| o.refused(1) && run.result.len() != RESULT),
         ("refused 1, too many stations", |run, o| o.refused(1) && run.addresses.len() > STATIONS_MAX),
-        ("refused 1, an address out of range", |run, o| {
-            o.refused(1) && !run.addresses.iter().all(|&address| is_address(address))
-        }),
-        ("refused 1, an address twice", |run, o| {
-            let twice = |i: usize| run.addresses[..i].contains(&run.addresses[i]);
-            o.refused(1) && (0..run.addresses.len()).any(twice)
-        }),
+        ("refused 1, an address out of range", |run, o| o.refused(1) && run.has_bad_address()),
+        ("refused 1, an address twice", |run, o| o.refused(1) && run.has_address_twice()),
         ("refused 1, tables", |_, o| o.refused(1)),
         ("refused 2", |_, o| o.refused(2)),
         ("refused 3", |_, o| o.refused(3)),
@@ -112,8 +124,9 @@ impl Call for DryRun {
 
     fn generate(random: &mut Random, compare: &mut Compare<DryRun>) -> Result<(), Stop> {
         every_telegram::generate(random, 2, &mut |random, telegram| compare(&random.run(telegram)).map(drop))?;
-        fresh(random, compare)?;
-        missing(random, compare)?;
+        let take: &mut Take = &mut |_, run| compare(&run).map(drop);
+        fresh(random, take)?;
+        missing(random, take)?;
         sizes(random, compare)?;
         long(random, compare)?;
         for _ in 0..12_000 {
@@ -151,7 +164,7 @@ impl Random {
     }
 
     /// A dry run in a net that has the stations which a telegram names.
-    fn run(&mut self, telegram: Vec<u8>) -> DryRun {
+    pub(super) fn run(&mut self, telegram: Vec<u8>) -> DryRun {
         let mut stations = named(block_of(&telegram));
         stations.retain(|&station| is_address(station));
         stations.sort_unstable();
@@ -162,29 +175,34 @@ impl Random {
     }
 }
 
+/// Has a dry run compared.
+pub(super) type Take<'a> = dyn FnMut(&mut Random, DryRun) -> Result<(), Stop> + 'a;
+
 /// Requests over every number of stations in every form, fresh and one hop on, which make every
 /// number of transmissions; more of them in the standard form, over the longest way, and with bodies
 /// of all kinds.
-fn fresh(random: &mut Random, compare: &mut Compare<DryRun>) -> Result<(), Stop> {
+pub(super) fn fresh(random: &mut Random, take: &mut Take) -> Result<(), Stop> {
     for ((extended, n), stations) in forms().flat_map(|form| (1..form.1).map(move |s| (form, s))) {
         for i in 0..if extended && stations < ROUTE { 3 } else { 60 } {
             let block = random.block(stations, n, i % 2);
             let body = if i < 2 { random.good_body() } else { random.some_body() };
-            compare(&random.run(telegram(REQUEST, extended, &block, &body)))?;
+            let run = random.run(telegram(REQUEST, extended, &block, &body));
+            take(random, run)?;
         }
     }
     for body in faulty_bodies().iter().cycle().take(400) {
         let (extended, n) = random.some_form();
         let stations = 1 + random.below(n - 1);
         let block = random.block(stations, n, 0);
-        compare(&random.run(telegram(REQUEST, extended, &block, body)))?;
+        let run = random.run(telegram(REQUEST, extended, &block, body));
+        take(random, run)?;
     }
     Ok(())
 }
 
 /// One station missing, at each place of a route: in fresh requests, and in requests and
 /// replies that begin anywhere, whose missing station may lie on the way back.
-fn missing(random: &mut Random, compare: &mut Compare<DryRun>) -> Result<(), Stop> {
+pub(super) fn missing(random: &mut Random, take: &mut Take) -> Result<(), Stop> {
     for (extended, n) in forms() {
         for stations in [n - 1, 1 + random.below(n - 1)] {
             let route = random.block(stations, n, 0);
@@ -198,7 +216,7 @@ fn missing(random: &mut Random, compare: &mut Compare<DryRun>) -> Result<(), Sto
                     if let Some(lost) = run.addresses.iter().position(|&own| own == route[place]) {
                         run = run.without(lost);
                     }
-                    compare(&run)?;
+                    take(random, run)?;
                 }
             }
         }
@@ -236,7 +254,7 @@ fn sizes(random: &mut Random, compare: &mut Compare<DryRun>) -> Result<(), Stop>
 
 impl Random {
     /// A dry run with none to two changes of its telegram, and as many of what is lent.
-    fn odd_run(&mut self) -> DryRun {
+    pub(super) fn odd_run(&mut self) -> DryRun {
         let telegram = self.some_telegram();
         let mut run = self.run(telegram);
         for _ in 0..self.below(3) {

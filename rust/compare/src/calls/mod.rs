@@ -1,9 +1,11 @@
-//! The calls, one module each; those of the gate bus are in `gate`.
+//! The calls, one module each; those of the gate bus are in `gate`, and dry runs in pairs of nets in
+//! `isolation`.
 
 pub mod dry_run;
 mod exchange;
 pub mod frame;
 pub mod gate;
+mod isolation;
 pub mod read_reply;
 pub mod receive;
 pub mod station;
@@ -21,6 +23,7 @@ pub fn parts() -> Vec<Part> {
         Part::of::<write_request::WriteRequest>(),
         Part::of::<read_reply::ReadReply>(),
         Part::of::<dry_run::DryRun>(),
+        Part::of::<isolation::Pair>(),
         Part::of_several("exchanges", exchange::generate),
         Part::of::<gate::write::GateWrite>(),
         Part::of::<gate::receive::GateReceive>(),
