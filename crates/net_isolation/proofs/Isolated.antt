@@ -3,11 +3,12 @@
 use mathlib.Core.Path.{_≡_, refl, sym, _∙_, ap, subst, subst₂}
 use mathlib.Core.Bool.{Bool, true, false, false≢true, _||_}
 use mathlib.Core.List.{List, [], _∷_, _++_}
-use Prim.Native.Nat.{ℕ, zero, suc, _-_, _≤_}
+use Prim.Native.Nat.{ℕ, _-_, _≤_}
 use native.Mathlib.Omega.{arith}
 use borrow.Author.Tests.{ltb-true, ltb-false}
 use lib.Dec.{eqb, ltb}
-use lib.ListN.{length, take, drop, replicate, length-append, length-replicate}
+use lib.ListN.{length, drop, replicate, length-append, length-replicate}
+use lib.Seq.{take-append-le}
 use Rattle.base.specs.Choice.{pick}
 use Rattle.base.specs.Places.{placed}
 use Rattle.refusal.proofs.Numbers.{numbers-differ}
@@ -15,10 +16,11 @@ use Rattle.mop_block.specs.Block.{has, first}
 use Rattle.mop_header.specs.Header.{Head}
 use Rattle.mop_reader.specs.Reading.{Reading, sound, faulty, maxTelegram, reading}
 use Rattle.mop_reader.specs.declared.Reader.the-variants.{Station}
-use Rattle.net_journey.specs.Net.{Net, tableAt}
+use Rattle.net_journey.specs.Net.{tableAt}
 use Rattle.net_journey.specs.Journey.{Course}
 use Rattle.net_journey.specs.Terms.{beforeZeros, lastTelegram}
 use Rattle.net_journey.proofs.Ring.{none-named}
+use Rattle.net_journey.proofs.Start.{reply-request}
 use Rattle.net_hop.specs.Tables.{netOf, tablesFit, setUp}
 use Rattle.net_hop.specs.Hop.{endingOf}
 use Rattle.net_hop.specs.declared.JourneyEnd.{JourneyEnd}
@@ -30,15 +32,8 @@ use Rattle.net_dry_run.specs.declared.DryRunAnswer.the-variants.{Played, Refuse
 use Rattle.net_dry_run.proofs.DryRuns.{not-set-up, too-long, output-short, run-by}
 use Rattle.net_dry_run.proofs.Journeys.{runs-the-journey}
 use Rattle.net_isolation.specs.Journeys.{SameCourse}
-use Rattle.net_isolation.specs.Isolated.{IsPlayed, SameFirst, SameFilled, SameRun, SameLengths, Isolated, RefusedIsolated, NobodyIsolated, MissingIsolated, RepliesIsolated, CallsIsolated}
-use Rattle.net_isolation.proofs.Registers.{not-request}
-use Rattle.net_isolation.proofs.Journeys.{Asks, same-header, same-destination, alike-journeys}
-
--- the first places of a list that has so many of its own
-take-own : (n : ℕ) (new old other : List ℕ) → n ≤ length new → take n (new ++ old) ≡ take n (new ++ other)
-take-own zero new old other h = refl
-take-own (suc n) [] old other h = absurd (omega arith)
-take-own (suc n) (x ∷ new) old other h = ap (λ (l : List ℕ). x ∷ l) (take-own n new old other (omega arith))
+use Rattle.net_isolation.specs.Isolated.{IsPlayed, SameFirst, SameFilled, SameRun, SameLengths, Isolated, RefusedIsolated, NobodyIsolated, MissingIsolated, RepliesIsolated, CallsSame, CallsIsolated}
+use Rattle.net_isolation.proofs.Journeys.{Asks, same-header, of-header, both-journeys}
 
 -- a telegram and 0 behind it have the places that are filled
 padded-long : (tg : List ℕ) → runOutput ≤ length (padded tg)
@@ -47,7 +42,7 @@ padded-long tg = omega (arith, length-append tg (replicate (runOutput - length t
 
 -- whatever the output held
 same-own : (n : ℕ) (new old other : List ℕ) → n ≤ length new → SameFirst n (new ++ old) (new ++ other)
-same-own n new old other h = record { same = take-own n new old other h }
+same-own n new old other h = record { same = take-append-le n new old h ∙ sym (take-append-le n new other h) }
 
 same-filled : (last out out′ : List ℕ) → SameFilled (placed (padded last) out) (placed (padded last) out′)
 unfolding placed
@@ -115,7 +110,7 @@ module _ (tg addresses tables tables′ out out′ : List ℕ) (lengths : SameLe
             let is-played : IsPlayed (one .outcome) = subst (λ (x : DryRun). IsPlayed (x .outcome)) (sym (r .gives)) tt in
             subst₂ SameRun (sym (r .gives)) (sym (s .gives))
             (same-course (r .journey .course) (s .journey .course)
-            (alike-journeys tg (netOf addresses tables) (netOf addresses tables′) (good-net addresses tables set) (good-net addresses tables′ set′)
+            (both-journeys tg (netOf addresses tables) (netOf addresses tables′) (good-net addresses tables set) (good-net addresses tables′ set′)
             (addresses-of-net addresses tables ∙ sym (addresses-of-net addresses tables′)) (asks is-played) (r .journey .journey) (s .journey .journey) .shown))
 
       by-room : length tg ≤ maxTelegram → (less : Bool) → ltb (length out) runOutput ≡ less → SameRun one two
@@ -154,12 +149,12 @@ pub missing-isolated : MissingIsolated
 missing-isolated tg addresses h order missing tables tables′ out out′ lengths =
     let same = no-table (beforeZeros (h .block)) addresses tables missing ∙ sym (no-table (beforeZeros (h .block)) addresses tables′ missing) in
     same-run tg addresses tables tables′ out out′ lengths
-    (λ p g e request some. same-destination tg (netOf addresses tables) (netOf addresses tables′) h order same g e)
+    (λ p. of-header (λ (g : Head). Asks g (netOf addresses tables) (netOf addresses tables′)) order (λ request some. same))
 
 pub replies-isolated : RepliesIsolated
 replies-isolated tg addresses h order reply tables tables′ out out′ lengths =
     same-run tg addresses tables tables′ out out′ lengths
-    (λ p g e request. absurd (not-request (sym reply ∙ ap (λ (x : Head). x .function) (same-header order e) ∙ request)))
+    (λ p g e request. absurd (reply-request (sym reply ∙ ap (λ (x : Head). x .function) (same-header order e) ∙ request)))
 
 -- an answer by its outcome
 same-end : (e f : JourneyEnd) → endingOf e ≡ endingOf f → e ≡ f
@@ -183,7 +178,10 @@ same-answer (Played c e n) (Refused s) x = let z : _≡_ {A = ℕ} 0 1 = cc in a
 same-answer (Refused r) (Played d f m) x = let z : _≡_ {A = ℕ} 0 1 = cc in absurd (omega arith)
 same-answer (Refused r) (Refused s) x = ap Refused (numbers-differ r s cc)
 
-pub calls-isolated : CallsIsolated
-calls-isolated tg addresses tables tables′ out out′ o r s after left after′ left′ p q =
-    let same = subst₂ SameRun (sym p) (sym q) (isolated tg addresses tables tables′ out out′ o) in
+pub calls-same : CallsSame
+calls-same tg addresses tables tables′ out out′ run r s after left after′ left′ p q =
+    let same = subst₂ SameRun (sym p) (sym q) run in
     record { answer = same-answer r s (same .outcome); filled = same .filled }
+
+pub calls-isolated : CallsIsolated
+calls-isolated tg addresses tables tables′ out out′ o = calls-same tg addresses tables tables′ out out′ (isolated tg addresses tables tables′ out out′ o)

@@ -15,10 +15,9 @@ use Rattle.mop_header.specs.declared.Function.{Function}
 use Rattle.mop_header.specs.declared.Function.the-variants.{Request, Reply}
 use Rattle.mop_step.specs.Body.{Acceptance, accepts, rejects, judgedBody, afterWrites, replyBody}
 use Rattle.mop_step.specs.Step.{Stepped, relays, answers, refuses, Step, step, isStation, ifRoom, relayed, relaying, replied, answering, acting, stepping}
+use Rattle.mop_step.proofs.Cases.{act-either}
 use Rattle.mop_step.proofs.Steps.{for-this}
-
-pub not-request : Reply ≡ Request → ⊥
-not-request e = let x : _≡_ {A = ℕ} 0 1 = cc in omega arith
+use Rattle.net_journey.proofs.Start.{reply-request}
 
 module _ (h : Head) (body : List ℕ) (room : ℕ) where
   -- a relay, whatever its table
@@ -74,31 +73,17 @@ module _ (h : Head) (body : List ℕ) (room : ℕ) where
     unfolding acting
     act-relays Request zero e = absurd (answer-no-relay (judgedBody body) e)
     act-relays Request (suc n) e = (relaying-header e, λ r z. suc-ne-zero n z)
-    act-relays Reply n e = (relaying-header e, λ r. absurd (not-request r))
+    act-relays Reply n e = (relaying-header e, λ r. absurd (reply-request r))
 
     pub step-relays : (own : ℕ) → isStation own t ≡ true → first (h .block) ≡ own → stepping own h body t room .stepped ≡ relays g →
         (g ≡ relayed (h .function) h) × (h .function ≡ Request → next (h .block) ≡ 0 → ⊥)
     step-relays own set mine e =
         act-relays (h .function) (next (h .block)) (ap (λ (s : Step). s .stepped) (sym (for-this own h body t room set mine)) ∙ e)
 
-    relay-no-answer : (short : Bool) (on : Head) (reply : List ℕ) → pick short (step (refuses 11) t) (step (relays on) t) .stepped ≡ answers g reply → ⊥
-    relay-no-answer true on reply e = let x : _≡_ {A = ℕ} 0 1 = cc in omega arith
-    relay-no-answer false on reply e = let x : _≡_ {A = ℕ} 0 1 = cc in omega arith
-
-    relaying-no-answer : (reply : List ℕ) → relaying h body t room .stepped ≡ answers g reply → ⊥
-    unfolding relaying ifRoom
-    relaying-no-answer reply e =
-        let on = relayed (h .function) h in
-        relay-no-answer (ltb room (length (telegramOf on body))) on reply e
-
-    act-answers : (f : Function) (n : ℕ) (reply : List ℕ) → acting f n h body t room .stepped ≡ answers g reply → (f ≡ Request) × (n ≡ 0)
-    unfolding acting
-    act-answers Request zero reply e = (refl, refl)
-    act-answers Request (suc n) reply e = absurd (relaying-no-answer reply e)
-    act-answers Reply n reply e = absurd (relaying-no-answer reply e)
-
     -- who answers: a station with a 00 behind the first entry, to a request
     pub step-answers : (own : ℕ) → isStation own t ≡ true → first (h .block) ≡ own → {reply : List ℕ} → stepping own h body t room .stepped ≡ answers g reply →
         (h .function ≡ Request) × (next (h .block) ≡ 0)
     step-answers own set mine {reply} e =
-        act-answers (h .function) (next (h .block)) reply (ap (λ (s : Step). s .stepped) (sym (for-this own h body t room set mine)) ∙ e)
+        act-either own h body t room (λ (s : Step). s .stepped ≡ answers g reply → (h .function ≡ Request) × (next (h .block) ≡ 0))
+        (λ k x. let z : _≡_ {A = ℕ} 0 1 = cc in absurd (omega arith)) (λ l x. let z : _≡_ {A = ℕ} 0 1 = cc in absurd (omega arith))
+        (λ c l x. (c .request, c .last)) mine (ap (λ (s : Step). s .stepped) (sym (for-this own h body t room set mine)) ∙ e)

@@ -47,7 +47,7 @@ pub record OnlyOthersDiffer (tg addresses tables tables′ out out′ : List ℕ
   pub lengths : SameLengths tables tables′ out out′
   pub destination : IsPlayed (dryRun tg addresses tables out .outcome) → SameAtDestination tg (netOf addresses tables) (netOf addresses tables′)
 
--- the statement: such calls have the same run
+-- the statement: such calls have the same run. Both are then played, or both are refused
 abbrev pub Isolated : Type 0
 Isolated =
     (tg addresses tables tables′ out out′ : List ℕ) → OnlyOthersDiffer tg addresses tables tables′ out out′ →
@@ -59,12 +59,13 @@ RefusedIsolated =
     (tg addresses tables tables′ out out′ : List ℕ) → SameLengths tables tables′ out out′ → (k : ℕ) → dryRun tg addresses tables out .outcome ≡ outright k →
     SameRun (dryRun tg addresses tables out) (dryRun tg addresses tables′ out′)
 
--- nor in the net of these addresses for a telegram that names nobody, whose destination is not there, or that is a reply
+-- a telegram has the same run in the net of these addresses, whatever the tables and the outputs hold
 abbrev pub AllMayDiffer : List ℕ → List ℕ → Type 0
 AllMayDiffer tg addresses =
     (tables tables′ out out′ : List ℕ) → SameLengths tables tables′ out out′ →
     SameRun (dryRun tg addresses tables out) (dryRun tg addresses tables′ out′)
 
+-- so it is of one that names nobody, of one whose destination is not there, and of a reply
 abbrev pub NobodyIsolated : Type 0
 NobodyIsolated = (tg addresses : List ℕ) (h : Head) → reading Station tg ≡ sound h → m h ≡ 0 → AllMayDiffer tg addresses
 
@@ -74,18 +75,25 @@ MissingIsolated = (tg addresses : List ℕ) (h : Head) → reading Station tg �
 abbrev pub RepliesIsolated : Type 0
 RepliesIsolated = (tg addresses : List ℕ) (h : Head) → reading Station tg ≡ sound h → h .function ≡ Reply → AllMayDiffer tg addresses
 
--- what `dry_run` promises of a call: its answer, and the tables and the output as it leaves them
-abbrev pub Promised : List ℕ → List ℕ → List ℕ → List ℕ → DryRunAnswer → List ℕ → List ℕ → Type 0
-Promised tg addresses tables out r after left = dryRunOf r after left ≡ dryRun tg addresses tables out
+-- a call of `dry_run` keeps its promise: r is its answer, and after and left are the tables and the output as it leaves them
+abbrev pub KeepsPromise : List ℕ → List ℕ → List ℕ → List ℕ → DryRunAnswer → List ℕ → List ℕ → Type 0
+KeepsPromise tg addresses tables out r after left = dryRunOf r after left ≡ dryRun tg addresses tables out
 
 -- what two calls show is the same: the answer itself, and what they fill of the output
 pub record SameAnswer (r s : DryRunAnswer) (left left′ : List ℕ) : Type 0 where
   pub answer : r ≡ s
   pub filled : IsPlayed (outcomeOf r) → SameFilled left left′
 
--- the statement of the code: so it is of two such calls that keep the promise
+-- the statement of the code: so it is of two calls that have the same run by any of these statements
+abbrev pub CallsSame : Type 0
+CallsSame =
+    (tg addresses tables tables′ out out′ : List ℕ) → SameRun (dryRun tg addresses tables out) (dryRun tg addresses tables′ out′) →
+    (r s : DryRunAnswer) (after left after′ left′ : List ℕ) →
+    KeepsPromise tg addresses tables out r after left → KeepsPromise tg addresses tables′ out′ s after′ left′ → SameAnswer r s left left′
+
+-- and so of two calls between which only the registers of others than the destination differ
 abbrev pub CallsIsolated : Type 0
 CallsIsolated =
     (tg addresses tables tables′ out out′ : List ℕ) → OnlyOthersDiffer tg addresses tables tables′ out out′ →
-    (r s : DryRunAnswer) (after left after′ left′ : List ℕ) → Promised tg addresses tables out r after left → Promised tg addresses tables′ out′ s after′ left′ →
-    SameAnswer r s left left′
+    (r s : DryRunAnswer) (after left after′ left′ : List ℕ) →
+    KeepsPromise tg addresses tables out r after left → KeepsPromise tg addresses tables′ out′ s after′ left′ → SameAnswer r s left left′

@@ -35,3 +35,7 @@ abbrev pub TablesIsolated : Type 0
 TablesIsolated =
     (tg : List ℕ) (net net′ : Net) (c d : Course) → goodNet net ≡ true → goodNet net′ ≡ true → addressesOf net ≡ addressesOf net′ →
     Journey net tg c → Journey net′ tg d → (a : ℕ) → tableAt a net ≡ tableAt a net′ → tableAt a (c .after) ≡ tableAt a (d .after)
+
+-- a good net is one afterwards too
+abbrev pub StaysGood : Type 0
+StaysGood = (tg : List ℕ) (net : Net) (c : Course) → goodNet net ≡ true → Journey net tg c → goodNet (c .after) ≡ true

@@ -1,2 +1,3 @@
 pub mod Journeys
+pub mod Series
 pub mod Isolated

@@ -70,7 +70,7 @@ named-count : (p : ℕ) {ahead back : List ℕ} (z : ℕ) → Full ahead → Ful
     length (stations (spread (suc p ∷ ahead) z (reverse back))) ≡ suc (length ahead) + length back
 named-count p {ahead} {back} z f g = ap length (stations-spread z (cons {a = p} f) (full-reverse g)) ∙ simp (length-append, length-reverse) (omega arith)
 
-reply-request : Reply ≡ Request → ⊥
+pub reply-request : Reply ≡ Request → ⊥
 reply-request e = let x : _≡_ {A = ℕ} 0 1 = cc in omega arith
 
 -- one transmission that no station shows

@@ -165,7 +165,7 @@ worked-cases =
     also refl also refl also refl also refl also refl also refl also refl also refl
     also refl also refl also refl also refl also refl also refl also refl
     also (alike-by _ _ _ _ refl _ refl (at-destination refl) (shows refl refl) (shows refl refl)
-    also unlike-at _ _ _ _ _ _ _ _ 10 (shows refl refl) (shows refl refl) (λ e. let x : _≡_ {A = ℕ} 0x1E 0x07 = e in omega arith)
+    also unlike-at _ _ _ _ _ _ _ _ 10 refl (shows refl refl) (shows refl refl) refl
     also alike-by _ _ _ _ refl _ refl (is-reply refl) (shows refl refl) (shows refl refl)
     also alike-by _ _ _ _ refl _ refl (not-there refl) (shows refl refl) (shows refl refl)
     also alike-by _ _ _ _ refl _ refl (at-destination refl) (shows refl refl) (shows refl refl)

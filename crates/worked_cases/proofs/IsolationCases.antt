@@ -4,6 +4,8 @@ use mathlib.Core.Path.{_≡_, sym, _∙_, ap, subst}
 use mathlib.Core.Bool.{false}
 use mathlib.Core.List.{List}
 use Prim.Native.Nat.{ℕ}
+use borrow.Author.Tests.{eqb-false}
+use lib.Dec.{eqb}
 use lib.ListN.{length, getD, take, replicate, length-replicate}
 use Rattle.mop_block.specs.Block.{has}
 use Rattle.mop_header.specs.Header.{Head}
@@ -16,7 +18,7 @@ use Rattle.net_journey.specs.Terms.{m, beforeZeros}
 use Rattle.net_hop.specs.Tables.{netOf}
 use Rattle.net_dry_run.specs.DryRun.{played, outright, DryRun, runOutput, padded}
 use Rattle.net_isolation.specs.Isolated.{IsPlayed, SameRun, SameLengths}
-use Rattle.net_isolation.proofs.Journeys.{same-destination}
+use Rattle.net_isolation.proofs.Journeys.{of-header}
 use Rattle.net_isolation.proofs.Isolated.{isolated, refused-isolated, nobody-isolated, missing-isolated, replies-isolated}
 use Rattle.worked_cases.specs.IsolationCases.{inOne, inOther, Shows, Alike, BothRefused, Unlike}
 
@@ -39,7 +41,11 @@ module _ (tg addresses tables other : List ℕ) where
   module _ (e : length tables ≡ length other) (h : Head) (order : reading Station tg ≡ sound h) where
     same-by : Why tg addresses tables other h → SameRun (inOne tg addresses tables) (inOther tg addresses other)
     same-by (at-destination table) =
-        isolated tg addresses tables other _ _ (record { lengths = lengths e; destination = λ p. same-destination tg _ _ h order table })
+        isolated tg addresses tables other _ _ (record {
+          lengths = lengths e;
+          destination = λ p.
+              of-header (λ (g : Head). (let a = beforeZeros (g .block) in tableAt a (netOf addresses tables) ≡ tableAt a (netOf addresses other))) order table;
+        })
     same-by (nobody-named none) = nobody-isolated tg addresses h order none tables other _ _ (lengths e)
     same-by (not-there none) = missing-isolated tg addresses h order none tables other _ _ (lengths e)
     same-by (is-reply reply) = replies-isolated tg addresses h order reply tables other _ _ (lengths e)
@@ -55,12 +61,10 @@ module _ (tg addresses tables other : List ℕ) where
 
   module _ (count : ℕ) (e : Ending) (last otherLast : List ℕ) where
     -- the last telegrams differ at a place
-    pub unlike-at : (i : ℕ) → Shows (inOne tg addresses tables) count e last → Shows (inOther tg addresses other) count e otherLast →
-        (getD (padded last) i 0 ≡ getD (padded otherLast) i 0 → ⊥) → Unlike tg addresses tables other count e last otherLast
-    unlike-at i one two apart = record {
-      one = one;
-      two = two;
-      differ = λ same.
-          apart (ap (λ (l : List ℕ). getD l i 0)
-          (sym (one .filled) ∙ same .filled (subst IsPlayed (sym (one .outcome)) tt) .same ∙ two .filled));
-    }
+    pub unlike-at : (i : ℕ) → length tables ≡ length other → Shows (inOne tg addresses tables) count e last → Shows (inOther tg addresses other) count e otherLast →
+        eqb (getD (padded last) i 0) (getD (padded otherLast) i 0) ≡ false → Unlike tg addresses tables other count e last otherLast
+    unlike-at i long one two apart =
+        let differ : SameRun (inOne tg addresses tables) (inOther tg addresses other) → ⊥ = λ same.
+        eqb-false (getD (padded last) i 0) (getD (padded otherLast) i 0) apart
+        (ap (λ (l : List ℕ). getD l i 0) (sym (one .filled) ∙ same .filled (subst IsPlayed (sym (one .outcome)) tt) .same ∙ two .filled)) in
+        record { one = one; two = two; differ = differ; needed = λ all. differ (all tables other _ _ (lengths long)) }

@@ -7,7 +7,7 @@ use lib.ListN.{length, take, replicate}
 use Rattle.mop_registers.specs.Rows.{tableLength, factory}
 use Rattle.net_journey.specs.Journey.{Ending, atZero, atNobody, refusedWith}
 use Rattle.net_dry_run.specs.DryRun.{played, outright, DryRun, runOutput, padded, dryRun}
-use Rattle.net_isolation.specs.Isolated.{SameRun}
+use Rattle.net_isolation.specs.Isolated.{SameRun, AllMayDiffer}
 
 -- the dry run in one net, with an output of 0s, and in the other, with one of 1s
 abbrev pub inOne : List ℕ → List ℕ → List ℕ → DryRun
@@ -32,11 +32,12 @@ pub record BothRefused (tg addresses tables other : List ℕ) (k : ℕ) : Type 0
   pub one : inOne tg addresses tables .outcome ≡ outright k
   pub two : inOther tg addresses other .outcome ≡ outright k
 
--- the runs differ: the same count and ending, and another last telegram
+-- the runs differ: the same count and ending, and another last telegram. So for this telegram not all registers may differ
 pub record Unlike (tg addresses tables other : List ℕ) (count : ℕ) (e : Ending) (last otherLast : List ℕ) : Type 0 where
   pub one : Shows (inOne tg addresses tables) count e last
   pub two : Shows (inOther tg addresses other) count e otherLast
   pub differ : SameRun (inOne tg addresses tables) (inOther tg addresses other) → ⊥
+  pub needed : AllMayDiffer tg addresses → ⊥
 
 pub data IsolationCase : Type 0 where
   -- the addresses of stations, their tables in the one net and in the other, a telegram, and what both runs show
