@@ -164,13 +164,13 @@ worked-cases =
     also refl
     also refl also refl also refl also refl also refl also refl also refl also refl
     also refl also refl also refl also refl also refl also refl also refl
-    also (alike-by _ _ _ _ refl _ refl (at-destination refl) (shows refl refl) (shows refl refl)
+    also (alike-by _ _ _ _ refl _ refl (at-destination refl) (shows refl refl)
     also unlike-at _ _ _ _ _ _ _ _ 10 refl (shows refl refl) (shows refl refl) refl
-    also alike-by _ _ _ _ refl _ refl (is-reply refl) (shows refl refl) (shows refl refl)
-    also alike-by _ _ _ _ refl _ refl (not-there refl) (shows refl refl) (shows refl refl)
-    also alike-by _ _ _ _ refl _ refl (at-destination refl) (shows refl refl) (shows refl refl)
-    also alike-by _ _ _ _ refl _ refl (at-destination refl) (shows refl refl) (shows refl refl)
-    also alike-by _ _ _ _ refl _ refl (nobody-named refl) (shows refl refl) (shows refl refl)
+    also alike-by _ _ _ _ refl _ refl (is-reply refl) (shows refl refl)
+    also alike-by _ _ _ _ refl _ refl (not-there refl) (shows refl refl)
+    also alike-by _ _ _ _ refl _ refl (at-destination refl) (shows refl refl)
+    also alike-by _ _ _ _ refl _ refl (at-destination refl) (shows refl refl)
+    also alike-by _ _ _ _ refl _ refl (nobody-named refl) (shows refl refl)
     also both-refused _ _ _ _ 5 refl refl refl
     also none)
     also gate-cases

@@ -26,6 +26,9 @@ pub shows : {r : DryRun} {count : ℕ} {e : Ending} {last : List ℕ} → r .out
     Shows r count e last
 shows o f = record { outcome = o; filled = f }
 
+played-so : {r : DryRun} {count : ℕ} {e : Ending} {last : List ℕ} → Shows r count e last → IsPlayed (r .outcome)
+played-so s = subst IsPlayed (sym (s .outcome)) tt
+
 -- why two runs are the same: by the table of the destination, or since nobody is named, the destination is missing, or it is a reply
 pub data Why (tg addresses tables other : List ℕ) (h : Head) : Type 0 where
   at-destination : (let a = beforeZeros (h .block) in tableAt a (netOf addresses tables) ≡ tableAt a (netOf addresses other)) → Why tg addresses tables other h
@@ -50,10 +53,16 @@ module _ (tg addresses tables other : List ℕ) where
     same-by (not-there none) = missing-isolated tg addresses h order none tables other _ _ (lengths e)
     same-by (is-reply reply) = replies-isolated tg addresses h order reply tables other _ _ (lengths e)
 
-    pub alike-by : {count : ℕ} {ending : Ending} {last : List ℕ} → Why tg addresses tables other h →
-        Shows (inOne tg addresses tables) count ending last → Shows (inOther tg addresses other) count ending last →
+    -- what the one run shows, computed, the other shows by the law
+    pub alike-by : {count : ℕ} {ending : Ending} {last : List ℕ} → Why tg addresses tables other h → Shows (inOne tg addresses tables) count ending last →
         Alike tg addresses tables other count ending last
-    alike-by why one two = record { same = same-by why; one = one; two = two }
+    alike-by why one =
+        let same = same-by why in
+        record {
+          same = same;
+          one = one;
+          two = shows (sym (same .outcome) ∙ one .outcome) (sym (same .filled (played-so one) .same) ∙ one .filled);
+        }
 
   pub both-refused : (k : ℕ) → length tables ≡ length other → inOne tg addresses tables .outcome ≡ outright k → inOther tg addresses other .outcome ≡ outright k →
       BothRefused tg addresses tables other k
@@ -66,5 +75,5 @@ module _ (tg addresses tables other : List ℕ) where
     unlike-at i long one two apart =
         let differ : SameRun (inOne tg addresses tables) (inOther tg addresses other) → ⊥ = λ same.
         eqb-false (getD (padded last) i 0) (getD (padded otherLast) i 0) apart
-        (ap (λ (l : List ℕ). getD l i 0) (sym (one .filled) ∙ same .filled (subst IsPlayed (sym (one .outcome)) tt) .same ∙ two .filled)) in
+        (ap (λ (l : List ℕ). getD l i 0) (sym (one .filled) ∙ same .filled (played-so one) .same ∙ two .filled)) in
         record { one = one; two = two; differ = differ; needed = λ all. differ (all tables other _ _ (lengths long)) }

@@ -21,7 +21,7 @@ pub record Shows (r : DryRun) (count : ℕ) (e : Ending) (last : List ℕ) : Typ
   pub outcome : r .outcome ≡ played count e (length last)
   pub filled : take runOutput (r .output) ≡ padded last
 
--- both runs are the same, by the law; and computed, they show this
+-- both runs are the same, and show this
 pub record Alike (tg addresses tables other : List ℕ) (count : ℕ) (e : Ending) (last : List ℕ) : Type 0 where
   pub same : SameRun (inOne tg addresses tables) (inOther tg addresses other)
   pub one : Shows (inOne tg addresses tables) count e last
