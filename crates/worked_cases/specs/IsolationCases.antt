@@ -27,6 +27,7 @@ pub record Alike (tg addresses tables other : List ℕ) (count : ℕ) (e : Endin
   pub one : Shows (inOne tg addresses tables) count e last
   pub two : Shows (inOther tg addresses other) count e last
 
+-- both runs are the same, and refused outright with this number
 pub record BothRefused (tg addresses tables other : List ℕ) (k : ℕ) : Type 0 where
   pub same : SameRun (inOne tg addresses tables) (inOther tg addresses other)
   pub one : inOne tg addresses tables .outcome ≡ outright k
