@@ -1,4 +1,6 @@
 // The refusals of the gate bus, each with the number that is given back, and the answer of a call that writes.
+#![tactic(auto)]
+
 ghost use Rattle.std.specs.Prelude.{◌≡◌};
 ghost use Rattle.gate_refusal.specs.Numbers.{number_of};
 

@@ -1,4 +1,6 @@
 // The registers of a station: where each has its value, what may be written to it, and runs of them.
+#![tactic(auto)]
+
 ghost use Rattle.std.specs.Prelude.{◌≡◌};
 ghost use Rattle.base.specs.Words.{words_of};
 ghost use Rattle.mop_registers.specs.Rows.{time_of_day, place_of, may_write, takes, factory};
