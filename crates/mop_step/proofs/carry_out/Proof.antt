@@ -1,6 +1,5 @@
 -- `carry_out`: 11, or the registers written and the body of the reply put.
 -- Assumes nothing.
-use denote.Slice.{shr_slice_at}
 use Rattle.mop_step.proofs.Answers.{length-reply, read-room, carried-short, carried-no-place, carried-answered}
 use Rattle.mop_step.proofs.Steps.{short_by, room_by}
 use Rattle.mop_step.proofs.Bodies.{accepted}
@@ -24,7 +23,7 @@ sent : (s : tie.After-has-room) →
     head_of s.before.before.IsSent-back.result a.block.now ≡ replied (head_of a.header a.block.now))
 unfolding replied
 sent s =
-    let same = shr_slice_at s.before.before.before.as-reply.ensures (begun s.before).args.block.now in
+    let same = at_slice s.before.before.before.as-reply.ensures (begun s.before).args.block.now in
     s.before.before.IsSent-back.ensures ∙ ap sent_back same
 
 as-reply-requires : tie.Need-as-reply-requires

@@ -1,6 +1,5 @@
 -- `relayed_header`: by the function.
 -- Assumes nothing.
-use denote.Slice.{shr_slice_at}
 use Rattle.mop_step.specs.Step.{relayed}
 use Rattle.mop_header.proofs.Turns.{at-slice}
 use mathlib.Core.Path.{sym, ◌∙◌}
@@ -22,7 +21,7 @@ sent-back-requires c κs = search rules
 
 returns : tie.Need-returns
 unfolding relayed
-returns c = shr_slice_at c.rolled-left.ensures c.before.before.before.before.args.block.now ∙ sym (rw c.before.enum_told.given.1)
+returns c = at_slice c.rolled-left.ensures c.before.before.before.before.args.block.now ∙ sym (rw c.before.enum_told.given.1)
 
 returns-2 : tie.Need-returns-2
 unfolding relayed

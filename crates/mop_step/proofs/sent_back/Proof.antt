@@ -1,6 +1,5 @@
 -- `sent_back`: rolled, then marked.
 -- Assumes nothing.
-use denote.Slice.{shr_slice_at}
 use Rattle.mop_header.proofs.Turns.{at-slice}
 use Rattle.mop_header.specs.Header.{remarked, sent_back}
 use mathlib.Core.Path.{◌∙◌, ap}
@@ -16,7 +15,7 @@ remarked-requires c κs = search rules
 
 returns : tie.Need-returns
 unfolding sent_back
-returns c = c.remarked.ensures ∙ ap remarked (shr_slice_at c.before.rolled-right.ensures c.before.before.before.args.block.now)
+returns c = c.remarked.ensures ∙ ap remarked (at_slice c.before.rolled-right.ensures c.before.before.before.args.block.now)
 
 pub sent-back-spec : {M : Type 1} → statement M
 sent-back-spec = tie.close (tie.spec rolled-right-requires remarked-requires returns)

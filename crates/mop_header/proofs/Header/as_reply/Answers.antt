@@ -3,12 +3,8 @@
 use mathlib.Core.Path.{refl}
 use Rattle.mop_header.specs.Header.{as_reply}
 use Rattle.mop_header.proofs.Turns.{for_each}
-use Rattle.mop_header.proofs.Header.as_reply.Statement.{statement}
-use Rattle.mop_header.proofs.Header.as_reply.Tie as tie
+use Rattle.mop_header.proofs.Header.as_reply.Goals as goal
 
-returns : tie.Need-returns
+pub returns : goal.returns
 unfolding as_reply
 returns c = for_each (λ slice. refl)
-
-pub as-reply-spec : {M : Type 1} → statement M
-as-reply-spec = tie.close (tie.spec returns)
