@@ -5,7 +5,7 @@ use Rattle.mop_step.proofs.Steps.{short_by, room_by}
 use Rattle.mop_step.proofs.Bodies.{accepted}
 use Rattle.mop_step.specs.Step.{replied}
 use Rattle.mop_step.specs.Body.{after_writes}
-use Rattle.mop_header.proofs.Turns.{at-slice}
+use Rattle.mop_header.proofs.Turns.{at_slice}
 use Rattle.mop_header.specs.Header.{head_of, sent_back}
 use native.Mathlib.Omega.{arith}
 use mathlib.Core.Path.{◌≡◌, refl, sym, ◌∙◌, ap}

@@ -1,7 +1,7 @@
 -- `put_reply`: three bytes as they came, and the bytes of the values behind them.
 -- Assumes nothing.
 use Rattle.mop_step.proofs.Stores.{reply-stored}
-use Rattle.mop_registers.specs.Rows.{placeOf}
+use Rattle.mop_registers.specs.Rows.{place_of}
 use lib.Seq.{length-take-le}
 use lib.ListN.{length, get_or, take, drop, length-drop}
 use native.Mathlib.Omega.{arith}
@@ -42,7 +42,7 @@ cast-end c = search rules
 
 add-end : tie.Need-overflow-add-end
 add-end c =
-    let place = c.place-of.ensures ∙ ap placeOf c.before.before.word_of.ensures in
+    let place = c.place-of.ensures ∙ ap place_of c.before.before.word_of.ensures in
     omega arith
 
 sub-put : tie.Need-overflow-sub-put
@@ -60,7 +60,7 @@ put-requires c κs = search rules
 mul-put-words : tie.Need-overflow-mul-put-words
 mul-put-words c =
     let p = placed c in
-    let place = p.place-of.ensures ∙ ap placeOf p.before.before.word_of.ensures in
+    let place = p.place-of.ensures ∙ ap place_of p.before.before.word_of.ensures in
     let inside : p.place-of.result ≤ length (begun p).args.registers.now = omega arith in
     search rules
 
@@ -73,7 +73,7 @@ part-put-words-start c = search rules
 part-put-words-end : tie.Need-slice-bounds-put-words-end
 part-put-words-end c =
     let p = placed c in
-    let place = p.place-of.ensures ∙ ap placeOf p.before.before.word_of.ensures in
+    let place = p.place-of.ensures ∙ ap place_of p.before.before.word_of.ensures in
     omega arith
 
 put-words-requires : tie.Need-put-words-requires
@@ -89,7 +89,7 @@ returns c =
     let a = (begun p).args in
     let at = p.place-of.result in
     let n = get_or a.body.now 2 0 in
-    let place = p.place-of.ensures ∙ ap placeOf p.before.before.word_of.ensures in
+    let place = p.place-of.ensures ∙ ap place_of p.before.before.word_of.ensures in
     let end : (at + n) - at ≡ n = omega arith in
     let values = take n (drop at a.registers.now) in
     let long : length values ≡ n = length-take-le n (drop at a.registers.now) (rw length-drop (omega arith)) in

@@ -1,7 +1,7 @@
 -- `relayed_header`: by the function.
 -- Assumes nothing.
 use Rattle.mop_step.specs.Step.{relayed}
-use Rattle.mop_header.proofs.Turns.{at-slice}
+use Rattle.mop_header.proofs.Turns.{at_slice}
 use mathlib.Core.Path.{sym, ◌∙◌}
 use borrow.Author.Rules.{rules}
 use Rattle.mop_step.proofs.relayed_header.Statement.{statement}

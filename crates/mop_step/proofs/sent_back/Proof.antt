@@ -1,6 +1,6 @@
 -- `sent_back`: rolled, then marked.
 -- Assumes nothing.
-use Rattle.mop_header.proofs.Turns.{at-slice}
+use Rattle.mop_header.proofs.Turns.{at_slice}
 use Rattle.mop_header.specs.Header.{remarked, sent_back}
 use mathlib.Core.Path.{◌∙◌, ap}
 use borrow.Author.Rules.{rules}

@@ -1,6 +1,6 @@
 -- `write_registers`: the values are stored from the place of the write start on.
 -- Assumes nothing.
-use Rattle.mop_registers.specs.Rows.{placeOf}
+use Rattle.mop_registers.specs.Rows.{place_of}
 use Rattle.base.proofs.Places.{take_rest}
 use lib.Seq.{sets}
 use Rattle.base.specs.Words.{words_of}
@@ -49,7 +49,7 @@ returns : tie.Need-returns
 returns c =
     let p = c.before.before.before.before.before in
     let a = (begun p).args in
-    let place = p.place-of.ensures ∙ ap placeOf p.before.word_of.ensures in
+    let place = p.place-of.ensures ∙ ap place_of p.before.word_of.ensures in
     c.before.before.store_words_lem.ensures
     ∙ ap₂ (λ (at : ℕ) (l : List ℕ). sets a.registers.now at (words_of l)) place (take_rest 6 a.body.now)
 
