@@ -10,14 +10,14 @@ use link_frame::control::{DLE, ETX, NAK, STX};
 use refusal::Refusal;
 
 // Whether the byte before was a DLE that the next byte decides on.
-#[derive(Drop)]
+#[derive(Clone, Copy)]
 pub enum Dle {
     Seen,
     NotSeen,
 }
 
 // At rest, inside a block, or waiting for the check byte.
-#[derive(Drop)]
+#[derive(Clone, Copy)]
 pub enum Phase {
     Rest,
     Inside(Dle),
@@ -25,7 +25,7 @@ pub enum Phase {
 }
 
 // The number of data bytes stored and the running check, beside the phase.
-#[derive(Drop)]
+#[derive(Clone, Copy)]
 pub struct LinkState {
     pub count: usize,
     pub check: u8,
@@ -46,7 +46,7 @@ impl LinkState {
 }
 
 // A byte came, or the timer ran out.
-#[derive(Drop)]
+#[derive(Clone, Copy)]
 pub enum LinkEvent {
     Byte(u8),
     Timer,
@@ -69,7 +69,7 @@ pub struct LinkStep {
 }
 
 // What storing a byte gives: the state after it, or no room.
-#[derive(Drop)]
+#[derive(Clone, Copy)]
 enum Stored {
     Kept(LinkState),
     NoRoom,
