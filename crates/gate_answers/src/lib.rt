@@ -1,4 +1,6 @@
 // The answers of a barrier, written and read.
+#![tactic(auto)]
+
 ghost use Rattle.std.specs.Prelude.{◌≡◌, [], ◌∷◌, get_or, drop};
 ghost use Rattle.base.specs.Filling.{fitted};
 ghost use Rattle.signed.specs.Signed.{top8, top32, signed_of, of_four};
@@ -23,7 +25,7 @@ pub const POSITION: u8 = 0x1D;
 
 // Yes; no; not at present; it takes time, and another answer follows; the vehicle count; the position of the beam in percent, or
 // -1 where it is unknown.
-#[derive(Drop)]
+#[derive(Clone, Copy)]
 pub enum BarrierAnswer {
     Ack,
     Nak,
