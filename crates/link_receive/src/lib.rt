@@ -1,4 +1,6 @@
 // The receiving half of 3964R, fed one event at a time.
+#![tactic(auto)]
+
 ghost use Rattle.std.specs.Prelude.{◌≡◌};
 ghost use Rattle.link_receive.specs.Receive.{response_of, reaction_of, outcome_of, refuses, at, to, resting, rest_of, storing, store_of, data_of, inside_of, waiting_of, event_of, receive_of};
 ghost use Rattle.link_receive.specs.declared.Phase.TheVariants.{Rest};
@@ -8,14 +10,14 @@ use link_frame::control::{DLE, ETX, NAK, STX};
 use refusal::Refusal;
 
 // Whether the byte before was a DLE that the next byte decides on.
-#[derive(Drop)]
+#[derive(Clone, Copy)]
 pub enum Dle {
     Seen,
     NotSeen,
 }
 
 // At rest, inside a block, or waiting for the check byte.
-#[derive(Drop)]
+#[derive(Clone, Copy)]
 pub enum Phase {
     Rest,
     Inside(Dle),
@@ -23,7 +25,7 @@ pub enum Phase {
 }
 
 // The number of data bytes stored and the running check, beside the phase.
-#[derive(Drop)]
+#[derive(Clone, Copy)]
 pub struct LinkState {
     pub count: usize,
     pub check: u8,
@@ -44,7 +46,7 @@ impl LinkState {
 }
 
 // A byte came, or the timer ran out.
-#[derive(Drop)]
+#[derive(Clone, Copy)]
 pub enum LinkEvent {
     Byte(u8),
     Timer,
@@ -67,7 +69,7 @@ pub struct LinkStep {
 }
 
 // What storing a byte gives: the state after it, or no room.
-#[derive(Drop)]
+#[derive(Clone, Copy)]
 enum Stored {
     Kept(LinkState),
     NoRoom,

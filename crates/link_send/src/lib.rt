@@ -1,4 +1,6 @@
 // The sending half of 3964R, fed one event at a time.
+#![tactic(auto)]
+
 ghost use Rattle.std.specs.Prelude.{◌≡◌, [], ◌∷◌, ◌≤◌, length};
 ghost use Rattle.base.specs.Filling.{fitted};
 ghost use Rattle.refusal.specs.Numbers.{number_of};
@@ -14,14 +16,14 @@ use link_receive::{Dle, LinkAnswer, LinkEvent, LinkState, Phase};
 use refusal::{Refusal, WriteAnswer};
 
 // Numbers of attempts: to connect in one attempt to send the block, and to send the block.
-#[derive(Drop)]
+#[derive(Clone, Copy)]
 pub struct Attempts {
     pub connections: usize,
     pub blocks: usize,
 }
 
 // Which end of a cable yields where both have opened: the low one.
-#[derive(Drop)]
+#[derive(Clone, Copy)]
 pub enum Priority {
     Low,
     High,
@@ -29,7 +31,7 @@ pub enum Priority {
 
 // Not started; waiting for the answer to an opening; waiting for the answer to the block; receiving, after a yield; the block
 // was sent and answered; no attempts were left.
-#[derive(Drop)]
+#[derive(Clone, Copy)]
 pub enum SendPhase {
     Fresh,
     Opening,
@@ -40,7 +42,7 @@ pub enum SendPhase {
 }
 
 // A sender: how many attempts it may make, how many have failed, its priority, and its phase.
-#[derive(Drop)]
+#[derive(Clone, Copy)]
 pub struct Sender {
     pub limits: Attempts,
     pub failed: Attempts,
@@ -107,7 +109,7 @@ impl Sender {
 }
 
 // The caller has data to send; a byte came; the timer ran out.
-#[derive(Drop)]
+#[derive(Clone, Copy)]
 pub enum SendEvent {
     Start,
     Byte(u8),
@@ -130,7 +132,7 @@ pub struct SendStep {
 }
 
 // What goes out.
-#[derive(Drop)]
+#[derive(Clone, Copy)]
 enum Going {
     Nothing,
     Opening,
@@ -140,14 +142,14 @@ enum Going {
 }
 
 // Whether a message was received, and how many bytes it has.
-#[derive(Drop)]
+#[derive(Clone, Copy)]
 pub enum Delivery {
     NoMessage,
     MessageOf(usize),
 }
 
 // What an event brings, before anything is written.
-#[derive(Drop)]
+#[derive(Clone, Copy)]
 struct Plan {
     going: Going,
     delivery: Delivery,
