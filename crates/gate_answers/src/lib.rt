@@ -36,7 +36,7 @@ pub enum BarrierAnswer {
 }
 
 // What reading an answer gives.
-#[derive(Drop)]
+#[derive(Clone, Copy)]
 pub enum AnswerRead {
     Answer(BarrierAnswer),
     Refused(GateRefusal),

@@ -4,7 +4,7 @@
 ghost use Rattle.std.specs.Prelude.{◌≡◌};
 ghost use Rattle.gate_refusal.specs.Numbers.{number_of};
 
-#[derive(Drop)]
+#[derive(Clone, Copy)]
 pub enum GateRefusal {
     // The state counts more than its telegram can have, or the store has the wrong length.
     Setup,
@@ -40,7 +40,7 @@ impl GateRefusal {
 }
 
 // What a call that writes gives: the length that it filled, or a refusal.
-#[derive(Drop)]
+#[derive(Clone, Copy)]
 pub enum GateWritten {
     Written(usize),
     Refused(GateRefusal),
