@@ -1,1 +1,2 @@
 // The worked cases, as one proved table; no code.
+#![tactic(auto)]
