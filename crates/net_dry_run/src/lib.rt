@@ -234,7 +234,7 @@ fn play(
     )
 }
 
-// The dry run of a telegram over a net: the one journey of that net (`runs-the-journey`, specs/DryRun.antt), played on the
+// The dry run of a telegram over a net: the one journey of that net (`runs_the_journey`, specs/DryRun.antt), played on the
 // tables given. Played: the count of transmissions, how the journey ended, and the length of the last telegram, which fills
 // the first places of out; 0 fills those behind it up to the 1,024th, and the others keep their values.
 // Refused, and tables and out as they were: 1 for a net that is not set up rightly, 12 for a telegram of more than 1,024

@@ -246,7 +246,7 @@ fn write_journey(
 }
 
 // The journey of a telegram over the stations with these addresses, whose tables stand end to end, told as text in the first
-// places of out: it is the one journey of that net (`tells-the-journey`, specs/Report.antt). A net that is set up wrongly and
+// places of out: it is the one journey of that net (`tells_the_journey`, specs/Report.antt). A net that is set up wrongly and
 // a fault of the header are told as text too; the tables are then as they were.
 // Refused with 11, and all as it was: an output of fewer than 6,500 places.
 pub fn report(telegram: &[u8], addresses: &[u8], tables: &mut [u16], out: &mut [u8]) -> WriteAnswer
