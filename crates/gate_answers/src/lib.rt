@@ -23,7 +23,7 @@ pub const POSITION: u8 = 0x1D;
 
 // Yes; no; not at present; it takes time, and another answer follows; the vehicle count; the position of the beam in percent, or
 // -1 where it is unknown.
-#[derive(Drop)]
+#[derive(Clone, Copy)]
 pub enum BarrierAnswer {
     Ack,
     Nak,
@@ -34,7 +34,7 @@ pub enum BarrierAnswer {
 }
 
 // What reading an answer gives.
-#[derive(Drop)]
+#[derive(Clone, Copy)]
 pub enum AnswerRead {
     Answer(BarrierAnswer),
     Refused(GateRefusal),

@@ -12,7 +12,7 @@ pub const COMMANDS: usize = 10;
 const OPERATE: u8 = 0x01;
 
 // A level and an edge register for each command.
-#[derive(Drop)]
+#[derive(Clone, Copy)]
 pub struct GateRegisters {
     pub levels: [bool; 10],
     pub edges: [bool; 10],
@@ -31,7 +31,7 @@ impl GateRegisters {
 }
 
 // The functions of a command: 00, 01 and 02.
-#[derive(Drop)]
+#[derive(Clone, Copy)]
 enum GateFunction {
     Pulse,
     Activate,
@@ -39,21 +39,21 @@ enum GateFunction {
 }
 
 // The level and the edge register of one command.
-#[derive(Drop)]
+#[derive(Clone, Copy)]
 struct GatePair {
     level: bool,
     edge: bool,
 }
 
 // The function of a byte, or that there is none.
-#[derive(Drop)]
+#[derive(Clone, Copy)]
 enum Found {
     Function(GateFunction),
     Unknown,
 }
 
 // What an operating command is answered by: ack, nak, or that its data is refused.
-#[derive(Drop)]
+#[derive(Clone, Copy)]
 pub enum OperateAnswer {
     Ack,
     Nak,
@@ -61,7 +61,7 @@ pub enum OperateAnswer {
 }
 
 // The answer to an operating command, and the registers after it.
-#[derive(Drop)]
+#[derive(Clone, Copy)]
 pub struct Operated {
     pub answer: OperateAnswer,
     pub registers: GateRegisters,

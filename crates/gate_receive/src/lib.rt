@@ -9,7 +9,7 @@ use gate_refusal::GateRefusal;
 use gate_telegram::{MAX_DATA, RESERVED, START_BYTE};
 
 // Where a telegram stands: what is awaited next, and what is known so far. The check is the running one.
-#[derive(Drop)]
+#[derive(Clone, Copy)]
 pub enum GateState {
     // No telegram has begun.
     Rest,
@@ -62,14 +62,14 @@ impl GateState {
 }
 
 // A byte came, or the timer ran out.
-#[derive(Drop)]
+#[derive(Clone, Copy)]
 pub enum GateEvent {
     Byte(u8),
     Timer,
 }
 
 // Nothing; a telegram with its source and the number of its data bytes; a token with its source; a refusal.
-#[derive(Drop)]
+#[derive(Clone, Copy)]
 pub enum GateAnswer {
     Nothing,
     Telegram { source: u8, size: u8 },
@@ -78,7 +78,7 @@ pub enum GateAnswer {
 }
 
 // The answer to an event, and the state after it.
-#[derive(Drop)]
+#[derive(Clone, Copy)]
 pub struct GateStep {
     pub answer: GateAnswer,
     pub state: GateState,

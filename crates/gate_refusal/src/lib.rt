@@ -1,8 +1,10 @@
 // The refusals of the gate bus, each with the number that is given back, and the answer of a call that writes.
+#![tactic(auto)]
+
 ghost use Rattle.std.specs.Prelude.{◌≡◌};
 ghost use Rattle.gate_refusal.specs.Numbers.{number_of};
 
-#[derive(Drop)]
+#[derive(Clone, Copy)]
 pub enum GateRefusal {
     // The state counts more than its telegram can have, or the store has the wrong length.
     Setup,
@@ -38,7 +40,7 @@ impl GateRefusal {
 }
 
 // What a call that writes gives: the length that it filled, or a refusal.
-#[derive(Drop)]
+#[derive(Clone, Copy)]
 pub enum GateWritten {
     Written(usize),
     Refused(GateRefusal),

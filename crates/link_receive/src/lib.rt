@@ -8,14 +8,14 @@ use link_frame::control::{DLE, ETX, NAK, STX};
 use refusal::Refusal;
 
 // Whether the byte before was a DLE that the next byte decides on.
-#[derive(Drop)]
+#[derive(Clone, Copy)]
 pub enum Dle {
     Seen,
     NotSeen,
 }
 
 // At rest, inside a block, or waiting for the check byte.
-#[derive(Drop)]
+#[derive(Clone, Copy)]
 pub enum Phase {
     Rest,
     Inside(Dle),
@@ -23,7 +23,7 @@ pub enum Phase {
 }
 
 // The number of data bytes stored and the running check, beside the phase.
-#[derive(Drop)]
+#[derive(Clone, Copy)]
 pub struct LinkState {
     pub count: usize,
     pub check: u8,
@@ -44,14 +44,14 @@ impl LinkState {
 }
 
 // A byte came, or the timer ran out.
-#[derive(Drop)]
+#[derive(Clone, Copy)]
 pub enum LinkEvent {
     Byte(u8),
     Timer,
 }
 
 // Nothing to send; a byte to send; a DLE to send and a message of so many bytes; a refusal.
-#[derive(Drop)]
+#[derive(Clone, Copy)]
 pub enum LinkAnswer {
     Nothing,
     Send(u8),
@@ -60,14 +60,14 @@ pub enum LinkAnswer {
 }
 
 // The answer to an event, and the state after it.
-#[derive(Drop)]
+#[derive(Clone, Copy)]
 pub struct LinkStep {
     pub answer: LinkAnswer,
     pub state: LinkState,
 }
 
 // What storing a byte gives: the state after it, or no room.
-#[derive(Drop)]
+#[derive(Clone, Copy)]
 enum Stored {
     Kept(LinkState),
     NoRoom,

@@ -14,14 +14,14 @@ use link_receive::{Dle, LinkAnswer, LinkEvent, LinkState, Phase};
 use refusal::{Refusal, WriteAnswer};
 
 // Numbers of attempts: to connect in one attempt to send the block, and to send the block.
-#[derive(Drop)]
+#[derive(Clone, Copy)]
 pub struct Attempts {
     pub connections: usize,
     pub blocks: usize,
 }
 
 // Which end of a cable yields where both have opened: the low one.
-#[derive(Drop)]
+#[derive(Clone, Copy)]
 pub enum Priority {
     Low,
     High,
@@ -29,7 +29,7 @@ pub enum Priority {
 
 // Not started; waiting for the answer to an opening; waiting for the answer to the block; receiving, after a yield; the block
 // was sent and answered; no attempts were left.
-#[derive(Drop)]
+#[derive(Clone, Copy)]
 pub enum SendPhase {
     Fresh,
     Opening,
@@ -40,7 +40,7 @@ pub enum SendPhase {
 }
 
 // A sender: how many attempts it may make, how many have failed, its priority, and its phase.
-#[derive(Drop)]
+#[derive(Clone, Copy)]
 pub struct Sender {
     pub limits: Attempts,
     pub failed: Attempts,
@@ -107,7 +107,7 @@ impl Sender {
 }
 
 // The caller has data to send; a byte came; the timer ran out.
-#[derive(Drop)]
+#[derive(Clone, Copy)]
 pub enum SendEvent {
     Start,
     Byte(u8),
@@ -115,7 +115,7 @@ pub enum SendEvent {
 }
 
 // So many bytes to send, which may be none; so many bytes to send, and a message of so many; a refusal.
-#[derive(Drop)]
+#[derive(Clone, Copy)]
 pub enum SendAnswer {
     Send(usize),
     Message(usize, usize),
@@ -123,14 +123,14 @@ pub enum SendAnswer {
 }
 
 // The answer to an event, and the state after it.
-#[derive(Drop)]
+#[derive(Clone, Copy)]
 pub struct SendStep {
     pub answer: SendAnswer,
     pub state: Sender,
 }
 
 // What goes out.
-#[derive(Drop)]
+#[derive(Clone, Copy)]
 enum Going {
     Nothing,
     Opening,
@@ -140,14 +140,14 @@ enum Going {
 }
 
 // Whether a message was received, and how many bytes it has.
-#[derive(Drop)]
+#[derive(Clone, Copy)]
 pub enum Delivery {
     NoMessage,
     MessageOf(usize),
 }
 
 // What an event brings, before anything is written.
-#[derive(Drop)]
+#[derive(Clone, Copy)]
 struct Plan {
     going: Going,
     delivery: Delivery,

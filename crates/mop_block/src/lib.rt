@@ -1,4 +1,6 @@
 // The block of a telegram: entries in a ring, 00s and the addresses of stations, and the rule for them.
+#![tactic(auto)]
+
 ghost use Rattle.std.specs.Prelude.{◌≡◌, [], ◌∷◌, true, false, not, ◌&&◌, ◌≤◌, ltb, length, get_or, set};
 ghost use Rattle.mop_block.specs.Block.{is_address, distinct_addresses, stations, zero_ends, good_block};
 

@@ -21,7 +21,7 @@ pub const MAX_ROUTE: usize = 31;
 const MAX_RUN: usize = 255;
 
 // What the centre says of a telegram: a reply for the centre, a telegram for a station, or a refusal.
-#[derive(Drop)]
+#[derive(Clone, Copy)]
 pub enum ReplyVerdict {
     Accepted,
     NotMine,
@@ -29,7 +29,7 @@ pub enum ReplyVerdict {
 }
 
 // What is read in a telegram. Unless it is accepted, all but the verdict is 0.
-#[derive(Drop)]
+#[derive(Clone, Copy)]
 pub struct ReplyRead {
     pub verdict: ReplyVerdict,
     // The stations in order, the destination last; 0 in the places that are left.

@@ -1,5 +1,7 @@
 // The header of a MoP telegram by value: rolled, marked and written. The entries of its block stay where they are, in a slice
 // of the caller's that is lent beside it; a header is one only together with that slice.
+#![tactic(auto)]
+
 ghost use Rattle.std.specs.Prelude.{◌≡◌, ℕ, ◌+◌, ◌-◌, ◌≤◌, ◌<◌, List, length, get_or, drop};
 ghost use Rattle.std.proofs.lemmas.List.Edits.{sets};
 ghost use Rattle.base.specs.Filling.{fitted};
@@ -17,14 +19,14 @@ pub const MARK: u8 = 0xEF;
 pub const NEW_CONTROL: u8 = 0xFF;
 
 // A request or a reply.
-#[derive(Drop)]
+#[derive(Clone, Copy)]
 pub enum Function {
     Request,
     Reply,
 }
 
 // Four entries, or the mark, a count and so many entries. The extended form carries its first mark byte.
-#[derive(Drop)]
+#[derive(Clone, Copy)]
 pub enum Form {
     Standard,
     Extended(u8),
@@ -32,7 +34,7 @@ pub enum Form {
 
 // The header of a telegram. Its block is the first count entries of the slice lent beside it, from the one at place turn on
 // and around; an entry that the slice lacks is 00. Other crates see the function, and all else by the methods.
-#[derive(Drop)]
+#[derive(Clone, Copy)]
 pub struct Header {
     pub function: Function,
     control: u8,

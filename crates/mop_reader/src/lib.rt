@@ -16,14 +16,14 @@ pub const MAX_TELEGRAM: usize = 1024;
 const MAX_ENTRIES: usize = 32;
 
 // Who reads a telegram.
-#[derive(Drop)]
+#[derive(Clone, Copy)]
 pub enum Reader {
     Station,
     Centre,
 }
 
 // What reading a header gives. The header is to stand beside the telegram from its block on.
-#[derive(Drop)]
+#[derive(Clone, Copy)]
 pub enum HeaderRead {
     Fine(Header),
     Fault(Refusal),

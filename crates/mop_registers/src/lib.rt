@@ -1,4 +1,6 @@
 // The registers of a station: where each has its value, what may be written to it, and runs of them.
+#![tactic(auto)]
+
 ghost use Rattle.std.specs.Prelude.{◌≡◌};
 ghost use Rattle.base.specs.Words.{words_of};
 ghost use Rattle.mop_registers.specs.Rows.{time_of_day, place_of, may_write, takes, factory};
@@ -9,7 +11,7 @@ ghost use Rattle.mop_registers.specs.Private.Columns.{allows_write, values_in, w
 pub const TABLE_LENGTH: usize = 18;
 
 // Whether a register takes writes.
-#[derive(Drop)]
+#[derive(Clone, Copy)]
 enum Access {
     ReadOnly,
     ReadWrite,
@@ -17,7 +19,7 @@ enum Access {
 
 // The values that a register takes: any; from the least to the largest; these, or 65535; the times of day; these, or
 // 65535; none, where no register is.
-#[derive(Drop)]
+#[derive(Clone, Copy)]
 enum Range {
     Any,
     FromTo(u16, u16),

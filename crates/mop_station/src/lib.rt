@@ -11,7 +11,7 @@ use mop_step::{REPLY_BODY, StationStep};
 use refusal::Refusal;
 
 // What handling a telegram gives: the length of what was sent, "not mine", or a refusal.
-#[derive(Drop)]
+#[derive(Clone, Copy)]
 pub enum StationAnswer {
     Sent(usize),
     NotMine,

@@ -20,7 +20,7 @@ pub const REPLY_BODY: usize = 19;
 
 // What a step gives: the header of the telegram that is relayed, with its own body; the header of the reply, and how many bytes
 // its body has; "not mine"; or a refusal.
-#[derive(Drop)]
+#[derive(Clone, Copy)]
 pub enum StationStep {
     Relayed(Header),
     Answered(Header, usize),
@@ -83,7 +83,7 @@ fn relay(header: Header, block: &[u8], body: &[u8], room: usize) -> StationStep
 }
 
 // Whether a destination accepts a body, or why not.
-#[derive(Drop)]
+#[derive(Clone, Copy)]
 enum BodyVerdict {
     Accepted,
     Rejected(Refusal),

@@ -24,7 +24,7 @@ use refusal::Refusal;
 const RUN_OUTPUT: usize = 1024;
 
 // What a dry run gives: the count of transmissions, how the journey ended and the length of the last telegram; or a refusal.
-#[derive(Drop)]
+#[derive(Clone, Copy)]
 pub enum DryRunAnswer {
     Played(usize, JourneyEnd, usize),
     Refused(Refusal),
@@ -44,14 +44,14 @@ fn clear_from(from: usize, out: &mut [u8])
 }
 
 // Why a leg stopped: the journey ended, or a destination answered with a body of so many bytes.
-#[derive(Drop)]
+#[derive(Clone, Copy)]
 enum Halt {
     Ended(JourneyEnd),
     Answered(usize),
 }
 
 // Where a leg came to: the header then, how many transmissions were made before it, and why it stopped.
-#[derive(Drop)]
+#[derive(Clone, Copy)]
 struct Leg {
     header: Header,
     gone: usize,

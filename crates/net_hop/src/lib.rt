@@ -21,7 +21,7 @@ pub const BYTES: usize = 256;
 pub const MOST_TRANSMISSIONS: usize = 62;
 
 // How a journey ends: with a 00 first, with an address first that nobody has, or refused by a station.
-#[derive(Drop)]
+#[derive(Clone, Copy)]
 pub enum JourneyEnd {
     AtZero,
     AtNobody,
@@ -30,7 +30,7 @@ pub enum JourneyEnd {
 
 // What a hop gives: the header with which the telegram goes on, with its own body; the header of the reply, and how many bytes its
 // body has; or how the journey ended.
-#[derive(Drop)]
+#[derive(Clone, Copy)]
 pub enum HopAnswer {
     Relayed(Header),
     Answered(Header, usize),

@@ -149,7 +149,7 @@ fn write_outright(refusal: Refusal, out: &mut [u8]) -> usize
 
 // Where a leg came to: the journey ended, and its text ends before this place; or a destination answered: the header of the reply,
 // how many bytes its body has, how many transmissions are told, and the place behind their lines.
-#[derive(Drop)]
+#[derive(Clone, Copy)]
 enum LegEnd {
     Told(usize),
     Answered(Header, usize, u8, usize),

@@ -1,8 +1,10 @@
 // The refusals of the library, each with the number that is given back, and the answer of a call that writes.
+#![tactic(auto)]
+
 ghost use Rattle.std.specs.Prelude.{◌≡◌};
 ghost use Rattle.refusal.specs.Numbers.{number_of};
 
-#[derive(Drop)]
+#[derive(Clone, Copy)]
 pub enum Refusal {
     // The own address is not 1 to 240, the register table has the wrong length, the link state is against its buffer, a
     // sender's limits or failed attempts are wrong, or the dry run is set up wrongly.
@@ -54,7 +56,7 @@ impl Refusal {
 }
 
 // What a call that writes gives: the length that it filled, or a refusal.
-#[derive(Drop)]
+#[derive(Clone, Copy)]
 pub enum WriteAnswer {
     Written(usize),
     Refused(Refusal),

@@ -1,4 +1,6 @@
 // Signed numbers in two's complement, and numbers of 32 bits as four bytes, lowest first.
+#![tactic(auto)]
+
 ghost use Rattle.std.specs.Prelude.{◌≡◌};
 ghost use Rattle.signed.specs.Signed.{top8, top32, bits_of, signed_of, four_bytes, of_four};
 

@@ -1,0 +1,27 @@
+-- `byte`: the steps that are left, from the running value on, give the whole. What is left falls.
+-- Assumes nothing.
+use mathlib.Core.Path.{◌≡◌, refl, sym, ◌∙◌}
+use Prim.Native.Nat.{◌≤◌, ◌-◌}
+use native.Mathlib.Omega.{arith}
+use borrow.Author.Rules.{rules}
+use Rattle.crc16.specs.Check.{steps}
+use Rattle.crc16.specs.Ccitt.{ccitt_bit, ccitt_byte}
+use Rattle.crc16.proofs.Check.{steps-turn, steps-end}
+use Rattle.crc16.proofs.ccitt.byte.Goals as goal
+
+pub overflow_mul-r : goal.overflow_mul-r
+overflow_mul-r c = omega (arith, c.ranges.b.fits)
+
+pub loop-i-init : goal.loop-i-init
+unfolding ccitt_byte
+loop-i-init c = (omega arith, refl)
+
+pub loop-i-preserved : goal.loop-i-preserved
+loop-i-preserved c =
+    let v = c.loop-i in
+    (omega arith, rw c.bit-r.ensures (sym (steps-turn ccitt_bit 8 v.i v.r (omega arith)) ∙ v.invariant.1))
+
+pub returns : goal.returns
+returns c =
+    let v = c.loop-i in
+    sym (steps-end ccitt_bit 8 v.i v.r (omega arith)) ∙ v.invariant.1
