@@ -1,5 +1,7 @@
 // The answer of every call for C, as one number: a value in its low half and a kind above it, which is 0 for done, 255 for "not
 // mine", else the number of the refusal. include/hanraquin.h says it for the programmer.
+#![tactic(auto)]
+
 ghost use Rattle.std.specs.Prelude.{◌≡◌};
 ghost use Rattle.refusal.specs.Numbers.{number_of};
 ghost use Rattle.refusal.specs.Writing.{given_of};

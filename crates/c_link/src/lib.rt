@@ -1,5 +1,7 @@
 // The calls of the link as functions for C: link_frame::frame and link_receive::receive. include/hanraquin.h says it for the
 // programmer.
+#![tactic(auto)]
+
 ghost use Rattle.std.specs.Prelude.{◌≡◌, true, length};
 ghost use Rattle.link_receive.specs.Receive.{response_of, receive_of};
 ghost use Rattle.c_answer.specs.Answer.{written};

@@ -19,7 +19,7 @@ use Rattle.link_send.specs.declared.SendPhase.TheVariants.{Fresh, Opening, Await
 use Rattle.link_send.specs.declared.Sender.{Sender}
 use Rattle.c_answer.specs.Answer.{refused}
 use Rattle.c_link.specs.Link.{dle_at, phase_number, phase_at, state_words, state_at}
-use Rattle.c_link.proofs.States.{state-parts, is_state, words_back}
+use Rattle.c_link.proofs.States.{state-parts, is_state_lem, words_back}
 use Rattle.c_link_send.specs.Send.{priority_number, priority_at, send_phase_number, send_phase_at, half_in, sender_words, sender_at, is_half, is_sender, is_event, event_at, AtSender, at_sender, at_sender_by, send_call}
 use Rattle.c_link_send.specs.Kept.{StateTaken, SendKept}
 use Rattle.c_link_send.proofs.States.{Nine, nine, is_nine, both, IsSender, sender-parts}
@@ -114,7 +114,7 @@ unfolding is_half
 half-taken Fresh h = refl
 half-taken Opening h = refl
 half-taken Awaiting h = refl
-half-taken (Receiving s) h = is_state (state_words s) refl (half_phase_most s.phase) h
+half-taken (Receiving s) h = is_state_lem (state_words s) refl (half_phase_most s.phase) h
 half-taken Sent h = refl
 half-taken GaveUp h = refl
 

@@ -1,4 +1,6 @@
 // The call of the sender as a function for C: link_send::send. include/hanraquin.h says it for the programmer.
+#![tactic(auto)]
+
 ghost use Rattle.std.specs.Prelude.{◌≡◌, true, [], ◌∷◌, length};
 ghost use Rattle.link_send.specs.Send.{response_of, send_of};
 ghost use Rattle.c_link_send.specs.Send.{priority_number, priority_at, send_phase_number, send_phase_at, half_in, sender_words, sender_at, is_half, is_sender, event_at, of_response, at_sender, at_sender_by, send_call};

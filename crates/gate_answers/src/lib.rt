@@ -1,4 +1,6 @@
 // The answers of a barrier, written and read.
+#![tactic(auto)]
+
 ghost use Rattle.std.specs.Prelude.{◌≡◌, [], ◌∷◌, get_or, drop};
 ghost use Rattle.base.specs.Filling.{fitted};
 ghost use Rattle.signed.specs.Signed.{top8, top32, signed_of, of_four};

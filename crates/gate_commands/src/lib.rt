@@ -1,4 +1,6 @@
 // The operating commands of a barrier, with their level and edge registers.
+#![tactic(auto)]
+
 ghost use Rattle.std.specs.Prelude.{◌≡◌, false, replicate, ◌<◌};
 ghost use Rattle.gate_refusal.specs.Writing.{filling_of};
 ghost use Rattle.gate_commands.specs.Commands.{after, function_of, carried_out, operation_of, commanding, operating, command_writing};

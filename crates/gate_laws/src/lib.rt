@@ -1,1 +1,2 @@
 // Laws of the gate bus as a whole; no code.
+#![tactic(auto)]

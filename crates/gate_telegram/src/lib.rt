@@ -1,4 +1,6 @@
 // The telegram of the gate bus, and the call that writes it.
+#![tactic(auto)]
+
 ghost use Rattle.std.specs.Prelude.{◌≡◌, ◌+◌, ◌≤◌, length};
 ghost use Rattle.base.specs.Filling.{written};
 ghost use Rattle.gate_refusal.specs.Writing.{filling_of};

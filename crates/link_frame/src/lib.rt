@@ -1,4 +1,6 @@
 // The 3964R frame that is sent for a block of data.
+#![tactic(auto)]
+
 pub mod control;
 
 ghost use Rattle.std.specs.Prelude.{◌≡◌, ◌+◌, ◌≤◌, length, replicate};

@@ -1,4 +1,6 @@
 // The receiving half of 3964R, fed one event at a time.
+#![tactic(auto)]
+
 ghost use Rattle.std.specs.Prelude.{◌≡◌};
 ghost use Rattle.link_receive.specs.Receive.{response_of, reaction_of, outcome_of, refuses, at, to, resting, rest_of, storing, store_of, data_of, inside_of, waiting_of, event_of, receive_of};
 ghost use Rattle.link_receive.specs.declared.Phase.TheVariants.{Rest};

@@ -28,7 +28,7 @@ use Rattle.link_send.specs.declared.SendPhase.TheVariants.{Fresh, Opening, Await
 use Rattle.link_send.specs.declared.Sender.{Sender}
 use Rattle.link_send.proofs.Rows.{opening_dle, awaiting_dle}
 use Rattle.link_send_laws.specs.Runs.{Call}
-use Rattle.link_send_laws.specs.Cable.{Usable, Cable, answer_bytes, sender_done, next, Reaches, here, later, after_start, started, Arrives, EndToEnd}
+use Rattle.link_send_laws.specs.Cable.{Usable, Cable, answer_bytes, sender_done, Reaches, here, later, after_start, started, Arrives, EndToEnd}
 use Rattle.link_send_laws.proofs.Turns.{doing, fresh_call, opening_call, awaiting_call}
 
 -- the bytes that the half's end sends for its answers

@@ -20,7 +20,7 @@ use Rattle.link_receive.specs.declared.Phase.TheVariants.{Rest, Inside, Waiting}
 use Rattle.link_receive.proofs.Bounds.{receive_agrees}
 use Rattle.link_receive.proofs.Rows.{rest_stx}
 use Rattle.link_receive.proofs.Effects.{is_rest, Effect, rests, goes_on, stores, event_effect}
-use Rattle.link_send.specs.Send.{opening, bytes_of, Turn, Taken, with, answer_parts, delivery_of, responding, half_against, attempts, into, connection_fails, block_fails, collision, opening_byte, awaiting_byte, at_phase, after_half, half_of, fresh_of, opening_of, awaiting_of, receiving_of, in_phase, turn_of, Sending}
+use Rattle.link_send.specs.Send.{bytes_of, Turn, Taken, with, answer_parts, delivery_of, responding, half_against, attempts, into, connection_fails, block_fails, collision, opening_byte, awaiting_byte, at_phase, after_half, half_of, fresh_of, opening_of, awaiting_of, receiving_of, in_phase, turn_of, Sending}
 use Rattle.link_send.proofs.Rows.{opening_stx}
 use Rattle.link_send.specs.declared.Priority.{Priority}
 use Rattle.link_send.specs.declared.Priority.TheVariants.{Low, High}

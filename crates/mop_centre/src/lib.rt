@@ -1,4 +1,6 @@
 // The centre of a net: it writes requests, and reads the replies to them.
+#![tactic(auto)]
+
 ghost use Rattle.std.specs.Prelude.{◌≡◌, ◌+◌, ◌*◌, ◌≤◌, eqb, length, take, drop};
 ghost use Rattle.refusal.specs.Writing.{filling_of};
 ghost use Rattle.mop_block.specs.Block.{stations};

@@ -1,6 +1,5 @@
 -- The entries of a slice, turned: what is first, what stands where, and what a roll makes of it.
 -- Assumes nothing.
-use denote.Slice.{shr_slice_at}
 use mathlib.Core.Path.{◌≡◌, refl, sym, ◌∙◌, ap}
 use mathlib.Core.Bool.{Bool, true, false}
 use mathlib.Core.List.{List, [], ◌∷◌, ◌++◌, append_assoc, append-nil}
@@ -21,8 +20,8 @@ use Rattle.mop_header.specs.Private.Places.{first_place}
 pub for_each : {f g : List ℕ → Head} → ((slice : List ℕ) → f slice ≡ g slice) → f ≡ g
 for_each p = λ i slice. p slice i
 
-pub shr_slice_at : {f g : List ℕ → Head} → f ≡ g → (slice : List ℕ) → f slice ≡ g slice
-shr_slice_at e slice = ap (λ (h : List ℕ → Head). h slice) e
+pub at_slice : {f g : List ℕ → Head} → f ≡ g → (slice : List ℕ) → f slice ≡ g slice
+at_slice e slice = ap (λ (h : List ℕ → Head). h slice) e
 
 pub length-entries : (n : ℕ) (l : List ℕ) → length (entries n l) ≡ n
 unfolding entries

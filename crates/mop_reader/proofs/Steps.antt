@@ -59,12 +59,12 @@ module _ (who : Reader) (tg : List ℕ) where
         as_standard e = rw (le-ltb max_telegram (length tg) small, le-ltb (length tg) 6 six, function, e)
 
       -- the same by what the calls give
-      pub by_form : {taken mark : Bool} {f : Function} → taken ≡ allowed who (get_or tg 0 0) → not taken ≡ false →
+      pub by_form : {taken mark : Bool} {f : Function} → taken ≡ allowed who (get_or tg 0 0) → taken ≡ true →
           f ≡ pick (eqb (get_or tg 0 0) 0xE0) Reply Request → mark ≡ is_mark f (get_or tg 2 0) (get_or tg 3 0) (get_or tg 4 0) (get_or tg 5 0) →
           reading who tg ≡ pick mark (extended_reading who tg) (standard_reading who tg)
       unfolding reading function_at
       by_form {taken} a t f m =
-          rw (le-ltb max_telegram (length tg) small, le-ltb (length tg) 6 six, sym a ∙ not-false taken t, m, f)
+          rw (le-ltb max_telegram (length tg) small, le-ltb (length tg) 6 six, sym a ∙ t, m, f)
 
   -- behind the mark
   pub count_cut : length tg < 7 → extended_reading who tg ≡ faulty 2

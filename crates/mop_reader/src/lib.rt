@@ -1,4 +1,6 @@
 // Reading the header of a MoP telegram, for a station or for the centre.
+#![tactic(auto)]
+
 ghost use Rattle.std.specs.Prelude.{◌≡◌, ℕ, ◌≤◌, List, ◌++◌, length, drop, eqb};
 ghost use Rattle.base.specs.Choice.{pick};
 ghost use Rattle.mop_header.specs.declared.Function.TheVariants.{Request, Reply};

@@ -1,4 +1,6 @@
 // What a station does with a telegram: its header is read, the step made, and what is to be sent written.
+#![tactic(auto)]
+
 ghost use Rattle.std.specs.Prelude.{◌≡◌, List, ℕ, ◌≤◌, length, drop};
 ghost use Rattle.mop_header.specs.Header.{head_of, header_length, telegram_of, block_start};
 ghost use Rattle.mop_reader.specs.Reading.{sound};

@@ -1,5 +1,7 @@
 // The dry run of a net: the journey of a telegram over tables end to end, hop after hop. In each hop the called station makes its
 // step on the header; the entries of the block stay where the telegram has them, and the last telegram is written at the end.
+#![tactic(auto)]
+
 ghost use Rattle.std.specs.Prelude.{◌≡◌, true, ◌≤◌, length, take, drop};
 ghost use Rattle.base.specs.Places.{placed};
 ghost use Rattle.mop_header.specs.Header.{head_of, telegram_of, block_start};

@@ -1,4 +1,6 @@
 // One hop of a journey over a net of stations whose tables stand end to end: the called station makes its step on the header.
+#![tactic(auto)]
+
 ghost use Rattle.std.specs.Prelude.{◌≡◌, suc, ◌*◌, ◌≤◌, length, get_or};
 ghost use Rattle.mop_registers.specs.Rows.{table_length};
 ghost use Rattle.mop_header.specs.Header.{head_of};

@@ -1,4 +1,6 @@
 // The text that tells the journey of a telegram, as the program prints it.
+#![tactic(auto)]
+
 ghost use Rattle.std.specs.Prelude.{◌≡◌, ◌+◌, ◌*◌, ◌≤◌, ◌<◌, true, [], ◌∷◌, length, drop};
 ghost use Rattle.base.specs.Filling.{filled};
 ghost use Rattle.base.specs.Private.Writing.{writing, writing_of};

@@ -1,4 +1,6 @@
 // Two-byte numbers, high byte first: made of bytes and stored, and written as bytes into a buffer.
+#![tactic(auto)]
+
 ghost use Rattle.std.specs.Prelude.{◌≡◌};
 ghost use Rattle.std.proofs.lemmas.List.Edits.{sets};
 ghost use Rattle.base.specs.Words.{word, words_of, bytes_of};

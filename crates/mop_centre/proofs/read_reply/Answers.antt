@@ -1,0 +1,21 @@
+-- `read_reply`: by what reading the header gives.
+-- Assumes nothing.
+use mathlib.Core.Path.{sym, ◌∙◌, ap}
+use Rattle.mop_reader.specs.Reading.{reading_of}
+use Rattle.mop_reader.specs.declared.HeaderRead.{HeaderRead}
+use Rattle.mop_centre.specs.Reply.{ReplyReading, receiving}
+use Rattle.mop_centre.proofs.Replies.{receipt_by, refused-read}
+use borrow.Author.Rules.{rules}
+use Rattle.mop_centre.proofs.read_reply.Goals as goal
+
+pub receive-requires : goal.receive-requires
+receive-requires c =
+    let a = c.args in
+    sym c.read.ensures ∙ ap (λ (r : HeaderRead). reading_of r a.telegram.now) c.in-Fine.is
+
+pub returns-in-Fault : goal.returns-in-Fault
+unfolding receiving
+returns-in-Fault c =
+    let tg = c.args.telegram.now in
+    let read = sym c.read.ensures ∙ ap (λ (r : HeaderRead). reading_of r tg) c.in-Fault.is in
+    c.unread.ensures ∙ sym (ap (λ (r : ReplyReading). r.answer) (refused-read tg (receipt_by tg (sym read))))

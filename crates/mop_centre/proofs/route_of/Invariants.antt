@@ -1,0 +1,24 @@
+-- `route_of`: the stations told so far, and those left from i on, make the whole. What is left falls.
+-- Assumes nothing.
+use mathlib.Core.Path.{◌≡◌, refl, sym, ◌∙◌}
+use Prim.Native.Nat.{◌+◌, ◌-◌, ◌≤◌, ◌<◌}
+use native.Mathlib.Omega.{arith}
+use borrow.Author.Rules.{rules}
+use lib.ListN.{length, get_or, drop, length-set}
+use lib.Seq.{sets}
+use Rattle.mop_block.specs.Block.{stations}
+use Rattle.mop_block.specs.Zipper.{zeros}
+use Rattle.mop_block.proofs.Scan.{zero_next}
+use Rattle.mop_header.specs.Header.{head_of}
+use Rattle.mop_centre.specs.Request.{max_route}
+use Rattle.mop_centre.proofs.Routes.{passed_over, station-told, all_told, one_fewer, told-places}
+use Rattle.mop_centre.proofs.route_of.Given as goal
+
+abbrev pub invariant-loop-i : goal.invariant-loop-i
+invariant-loop-i l =
+    let b = (head_of l.header l.block).block in
+    (l.i ≤ l.n) × (l.n ≡ length b) × (length l.route ≡ max_route) × (l.place + length (stations (drop l.i b)) ≤ max_route)
+    × (sets l.route l.place (stations (drop l.i b)) ≡ sets (zeros max_route) 0 (stations b))
+
+abbrev pub decreases-loop-i : goal.decreases-loop-i
+decreases-loop-i l = l.n - l.i

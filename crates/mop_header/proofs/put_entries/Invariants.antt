@@ -1,0 +1,20 @@
+-- `put_entries`: what is put, and what is left from entry i on, make the whole.
+-- Assumes nothing.
+use Prim.Native.Nat.{ℕ, ◌≤◌, ◌+◌, ◌-◌}
+use mathlib.Core.Path.{◌≡◌, refl, sym, ◌∙◌, ap}
+use mathlib.Core.List.{List}
+use native.Mathlib.Omega.{arith}
+use lib.ListN.{length, drop, length-set, drop_of_length-le}
+use lib.Seq.{sets}
+use borrow.Author.Rules.{rules}
+use Rattle.mop_header.specs.Header.{entries}
+use Rattle.mop_header.proofs.Turns.{length-entries, entry_put}
+use Rattle.mop_header.proofs.put_entries.Given as goal
+
+abbrev pub invariant-loop-i : goal.invariant-loop-i
+invariant-loop-i l =
+    (l.i ≤ l.end) × (l.place + (l.end - l.i) ≡ l.at + (l.end - l.from)) × (length l.out ≡ length l.initial.out)
+    × (sets l.out l.place (drop l.i (entries l.end l.block)) ≡ sets l.initial.out l.at (drop l.from (entries l.end l.block)))
+
+abbrev pub decreases-loop-i : goal.decreases-loop-i
+decreases-loop-i l = l.end - l.i

@@ -1,0 +1,33 @@
+-- `judge_runs`: the tests in their order.
+-- Assumes nothing.
+use mathlib.Core.Path.{sym, ◌∙◌}
+use borrow.Author.Tests.{not-true, not-false}
+use Rattle.mop_step.proofs.Bodies.{no-read-run, no-write-run, not_writable, out_of_range, runs_accepted}
+use borrow.Author.Rules.{rules}
+use Rattle.mop_step.proofs.judge_runs.Goals as goal
+
+pub returns-then-not-run_exists : goal.returns-then-not-run_exists
+returns-then-not-run_exists c = sym (no-read-run _ _ _ _ _ (sym c.run_exists.ensures ∙ c.if-not-run_exists.true))
+
+pub returns-then-not-run_exists-2 : goal.returns-then-not-run_exists-2
+returns-then-not-run_exists-2 c = sym (no-write-run _ _ _ _ _ (sym c.run_exists-2.ensures ∙ c.if-not-run_exists-2.true))
+
+pub returns-then-not-run_may_write : goal.returns-then-not-run_may_write
+returns-then-not-run_may_write c =
+    let read = sym c.run_exists.ensures ∙ c.if-not-run_exists.false in
+    let write = sym c.run_exists-2.ensures ∙ c.if-not-run_exists-2.false in
+    sym (not_writable _ _ _ _ _ read write (sym c.run_may_write.ensures ∙ c.if-not-run_may_write.true))
+
+pub returns-then-not-run_takes : goal.returns-then-not-run_takes
+returns-then-not-run_takes c =
+    let read = sym c.run_exists.ensures ∙ c.if-not-run_exists.false in
+    let write = sym c.run_exists-2.ensures ∙ c.if-not-run_exists-2.false in
+    let may = sym c.run_may_write.ensures ∙ c.if-not-run_may_write.false in
+    sym (out_of_range _ _ _ _ _ read write may (sym c.run_takes.ensures ∙ c.if-not-run_takes.true))
+
+pub returns : goal.returns
+returns c =
+    let read = sym c.run_exists.ensures ∙ c.if-not-run_exists.false in
+    let write = sym c.run_exists-2.ensures ∙ c.if-not-run_exists-2.false in
+    let may = sym c.run_may_write.ensures ∙ c.if-not-run_may_write.false in
+    sym (runs_accepted _ _ _ _ _ read write may (sym c.run_takes.ensures ∙ c.if-not-run_takes.false))

@@ -1,0 +1,11 @@
+-- `sent_back`: rolled, then marked.
+-- Assumes nothing.
+use Rattle.mop_header.proofs.Turns.{at_slice}
+use Rattle.mop_header.specs.Header.{remarked, sent_back}
+use mathlib.Core.Path.{◌∙◌, ap}
+use borrow.Author.Rules.{rules}
+use Rattle.mop_step.proofs.sent_back.Goals as goal
+
+pub returns : goal.returns
+unfolding sent_back
+returns c = c.remarked.ensures ∙ ap remarked (at_slice c.rolled_right-rolled.ensures c.args.block.now)

@@ -1,0 +1,54 @@
+-- `step_at`: the station's table is a part of the tables.
+-- Assumes nothing.
+use Rattle.net_hop.proofs.Hops.{stepped-at}
+use Rattle.mop_registers.proofs.Places.{table_length_lem}
+use Rattle.mop_registers.specs.Rows.{table_length}
+use native.Mathlib.Omega.{arith}
+use mathlib.Core.Path.{◌≡◌, refl}
+use Prim.Native.Nat.{ℕ, ◌+◌, ◌-◌, ◌*◌}
+use borrow.Author.Rules.{rules}
+use Rattle.net_hop.proofs.step_at.Goals as goal
+
+-- how long the part is
+size : (start : ℕ) → (start + table_length) - start ≡ table_length
+size start = omega arith
+
+pub overflow_mul-start : goal.overflow_mul-start
+overflow_mul-start c = let l = rw table_length_lem at c.requires in omega arith
+
+pub overflow_add-end : goal.overflow_add-end
+overflow_add-end c = let l = rw table_length_lem at c.requires in omega arith
+
+pub offset_bounds-tables-start : goal.offset_bounds-tables-start
+offset_bounds-tables-start c = let l = rw table_length_lem at c.requires in omega arith
+
+pub slice_bounds-table-end : goal.slice_bounds-table-end
+slice_bounds-table-end c = let l = rw table_length_lem at c.requires in omega arith
+
+pub returns-in-Relayed : goal.returns-in-Relayed
+unfolding table_length
+returns-in-Relayed c =
+    let s = c in
+    let a = s.args in
+    stepped-at a.own a.place _ _ _ _ _ _ _ _ refl (size (table_length * a.place)) s.step.ensures c.in-Relayed.is
+
+pub returns-in-Answered : goal.returns-in-Answered
+unfolding table_length
+returns-in-Answered c =
+    let s = c in
+    let a = s.args in
+    stepped-at a.own a.place _ _ _ _ _ _ _ _ refl (size (table_length * a.place)) s.step.ensures c.in-Answered.is
+
+pub returns-in-NotMine : goal.returns-in-NotMine
+unfolding table_length
+returns-in-NotMine c =
+    let s = c in
+    let a = s.args in
+    stepped-at a.own a.place _ _ _ _ _ _ _ _ refl (size (table_length * a.place)) s.step.ensures c.in-NotMine.is
+
+pub returns-in-Refused : goal.returns-in-Refused
+unfolding table_length
+returns-in-Refused c =
+    let s = c in
+    let a = s.args in
+    stepped-at a.own a.place _ _ _ _ _ _ _ _ refl (size (table_length * a.place)) s.step.ensures c.in-Refused.is
