@@ -1,5 +1,7 @@
 // The calls of the gate bus as functions for C: gate_telegram::write, gate_receive::receive, gate_commands::operate and
 // write_command, gate_answers::write_answer and read_answer. include/hanraquin.h says it for the programmer.
+#![tactic(auto)]
+
 ghost use Rattle.std.specs.Prelude.{◌≡◌, true, length};
 ghost use Rattle.gate_refusal.specs.Numbers.{number_of};
 ghost use Rattle.gate_refusal.specs.Writing.{given_of};

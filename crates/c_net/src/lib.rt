@@ -1,4 +1,6 @@
 // The call of a dry run as a function for C: net_dry_run::dry_run. include/hanraquin.h says it for the programmer.
+#![tactic(auto)]
+
 ghost use Rattle.std.specs.Prelude.{◌≡◌, [], ◌∷◌, length};
 ghost use Rattle.net_hop.specs.Hop.{ending_of};
 ghost use Rattle.net_dry_run.specs.DryRun.{outcome_of};
