@@ -1,5 +1,7 @@
 // The calls of a station and of the centre as functions for C: mop_station::handle, mop_centre::write_request and
 // mop_centre::read_reply. include/hanraquin.h says it for the programmer.
+#![tactic(auto)]
+
 ghost use Rattle.std.specs.Prelude.{◌≡◌, true, [], ◌∷◌, length};
 ghost use Rattle.mop_station.specs.Station.{handled_of};
 ghost use Rattle.mop_centre.specs.Reply.{reply_reading};

@@ -1,1 +1,3 @@
+#![tactic(auto)]
+
 // The bodies of MoP telegrams: definitions and laws, no code.

@@ -8,7 +8,6 @@ use Rattle.mop_block.specs.Block.{first}
 use Rattle.mop_header.specs.Header.{Head, mark_byte, mark_is, with_mark, mark_agrees, remarked}
 use Rattle.mop_header.specs.declared.Form.{Form}
 use Rattle.mop_header.specs.declared.Form.TheVariants.{Standard, Extended}
-use Rattle.mop_header.specs.declared.Function.{Function}
 use Rattle.mop_header.specs.declared.Function.TheVariants.{Request, Reply}
 
 pub mark-request : (a : ℕ) → mark_byte Request a ≡ 0xEF

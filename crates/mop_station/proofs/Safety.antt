@@ -14,7 +14,6 @@ use Rattle.mop_step.proofs.Safety.{step_keeps, step-only}
 use Rattle.mop_step.specs.Step.{Stepped, relays, answers, not_mine, refuses, is_station, stepping}
 use Rattle.mop_step.specs.Safety.{UnlessAnswered, CarriesOut}
 use Rattle.mop_station.specs.Station.{Handling, sending_by, hearing, handling}
-use Rattle.mop_station.specs.Station as station
 use Rattle.mop_station.specs.Safety.{Kept, RefusedKeepsAll, CarriesOutTelegram, OnlyDestinationWrites}
 
 -- what is sent, or not

@@ -5,7 +5,6 @@ use Rattle.net_dry_run.specs.DryRun.{DryRun}
 use Rattle.c_net.specs.Net.{ran_by}
 use Rattle.c_net.specs.Private.Small.{SmallRun}
 use Rattle.c_net.proofs.Runs.{small_run, bad_result, good_result}
-use borrow.Author.Rules.{rules}
 use Rattle.c_net.proofs.hanraquin_dry_run.Goals as goal
 
 pub returns-then-res-ne3 : goal.returns-then-res-ne3

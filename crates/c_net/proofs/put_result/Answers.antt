@@ -1,7 +1,6 @@
 -- `put_result`: three numbers are stored.
 -- Assumes nothing.
 use Rattle.c_answer.proofs.Three.{three_stored}
-use borrow.Author.Rules.{rules}
 use Rattle.c_net.proofs.put_result.Goals as goal
 
 pub returns : goal.returns

@@ -1,13 +1,7 @@
 -- `distinct_addresses`: what is left from `at` on, with the seen, decides as the whole list does. What is left falls.
 -- Assumes nothing.
-use Prim.Native.Nat.{◌-◌}
-use mathlib.Core.Path.{◌≡◌, sym, ◌∙◌}
-use native.Mathlib.Omega.{arith}
-use borrow.Author.Rules.{rules}
-use borrow.Author.Tests.{not-true, not-false}
-use lib.ListN.{length, drop}
-use Rattle.mop_block.specs.Block.{distinct_addresses}
-use Rattle.mop_block.proofs.Seen.{all_new, new_clear, new_next, new_end}
+use mathlib.Core.Path.{sym, ◌∙◌}
+use Rattle.mop_block.proofs.Seen.{new_clear, new_next, new_end}
 use Rattle.mop_block.proofs.distinct_addresses.Goals as goal
 
 pub loop-at-init : goal.loop-at-init

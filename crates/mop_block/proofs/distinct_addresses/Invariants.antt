@@ -1,13 +1,10 @@
 -- `distinct_addresses`: what is left from `at` on, with the seen, decides as the whole list does. What is left falls.
 -- Assumes nothing.
 use Prim.Native.Nat.{◌-◌}
-use mathlib.Core.Path.{◌≡◌, sym, ◌∙◌}
-use native.Mathlib.Omega.{arith}
-use borrow.Author.Rules.{rules}
-use borrow.Author.Tests.{not-true, not-false}
+use mathlib.Core.Path.{◌≡◌}
 use lib.ListN.{length, drop}
 use Rattle.mop_block.specs.Block.{distinct_addresses}
-use Rattle.mop_block.proofs.Seen.{all_new, new_clear, new_next, new_end}
+use Rattle.mop_block.proofs.Seen.{all_new}
 use Rattle.mop_block.proofs.distinct_addresses.Given as goal
 
 abbrev pub invariant-loop-at : goal.invariant-loop-at

@@ -1,13 +1,8 @@
 -- `good_block`: what was seen, and what is left from i on, decide as the whole block does. What is left falls.
 -- Assumes nothing.
-use Prim.Native.Nat.{◌≤◌, ◌-◌}
-use mathlib.Core.Path.{◌≡◌, sym, ◌∙◌}
+use mathlib.Core.Path.{sym, ◌∙◌}
 use native.Mathlib.Omega.{arith}
-use borrow.Author.Rules.{rules}
-use borrow.Author.Tests.{not-true, not-false}
-use lib.ListN.{drop}
-use Rattle.mop_block.specs.Block.{good_block}
-use Rattle.mop_block.proofs.Pass.{good_from, good_none, good_start, pass_zero, pass_refused, pass_station, pass_end}
+use Rattle.mop_block.proofs.Pass.{good_none, good_start, pass_zero, pass_refused, pass_station, pass_end}
 use Rattle.mop_block.proofs.good_block.Goals as goal
 
 pub returns-then-n-eq0 : goal.returns-then-n-eq0

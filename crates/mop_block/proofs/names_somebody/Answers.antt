@@ -1,10 +1,6 @@
 -- `names_somebody`: the entries passed are no stations. What is left falls.
 -- Assumes nothing.
-use Prim.Native.Nat.{◌-◌}
-use mathlib.Core.Path.{◌≡◌, refl, sym, ◌∙◌}
-use native.Mathlib.Omega.{arith}
-use lib.ListN.{length, drop}
-use Rattle.mop_block.specs.Block.{stations}
+use mathlib.Core.Path.{sym, ◌∙◌}
 use Rattle.mop_block.proofs.Scan.{somebody, zero_next, stations-end}
 use Rattle.mop_block.proofs.names_somebody.Goals as goal
 

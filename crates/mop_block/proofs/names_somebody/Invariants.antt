@@ -1,11 +1,9 @@
 -- `names_somebody`: the entries passed are no stations. What is left falls.
 -- Assumes nothing.
 use Prim.Native.Nat.{◌-◌}
-use mathlib.Core.Path.{◌≡◌, refl, sym, ◌∙◌}
-use native.Mathlib.Omega.{arith}
+use mathlib.Core.Path.{◌≡◌}
 use lib.ListN.{length, drop}
 use Rattle.mop_block.specs.Block.{stations}
-use Rattle.mop_block.proofs.Scan.{somebody, zero_next, stations-end}
 use Rattle.mop_block.proofs.names_somebody.Given as goal
 
 abbrev pub invariant-loop-i : goal.invariant-loop-i

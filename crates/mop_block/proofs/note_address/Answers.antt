@@ -2,7 +2,6 @@
 -- Assumes nothing.
 use mathlib.Core.Path.{refl, sym, ◌∙◌}
 use mathlib.Core.Bool.{and-true, and-false}
-use borrow.Author.Rules.{rules}
 use Rattle.mop_block.specs.Block.{is_address}
 use Rattle.mop_block.proofs.note_address.Goals as goal
 

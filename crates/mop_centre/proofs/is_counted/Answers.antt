@@ -3,7 +3,6 @@
 use mathlib.Core.Path.{sym}
 use native.Mathlib.Omega.{arith}
 use Rattle.mop_centre.proofs.Replies.{short_body}
-use borrow.Author.Rules.{rules}
 use Rattle.mop_centre.proofs.is_counted.Goals as goal
 
 pub returns-then-n-lt3 : goal.returns-then-n-lt3

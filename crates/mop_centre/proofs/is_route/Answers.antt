@@ -3,7 +3,6 @@
 use mathlib.Core.Path.{sym, ◌∙◌}
 use native.Mathlib.Omega.{arith}
 use Rattle.mop_centre.proofs.Routes.{no-station, too_many, by_addresses}
-use borrow.Author.Rules.{rules}
 use Rattle.mop_centre.proofs.is_route.Goals as goal
 
 pub returns-then-route-lt1 : goal.returns-then-route-lt1

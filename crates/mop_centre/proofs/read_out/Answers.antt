@@ -3,7 +3,6 @@
 use native.Mathlib.Omega.{arith}
 use Rattle.mop_centre.specs.Reply.{read_out}
 use Rattle.mop_centre.proofs.Replies.{header_most}
-use borrow.Author.Rules.{rules}
 use Rattle.mop_centre.proofs.read_out.Goals as goal
 
 pub overflow_add-values_at : goal.overflow_add-values_at

@@ -5,7 +5,6 @@ use Rattle.mop_reader.specs.Reading.{reading_of}
 use Rattle.mop_reader.specs.declared.HeaderRead.{HeaderRead}
 use Rattle.mop_centre.specs.Reply.{ReplyReading, receiving}
 use Rattle.mop_centre.proofs.Replies.{receipt_by, refused-read}
-use borrow.Author.Rules.{rules}
 use Rattle.mop_centre.proofs.read_reply.Goals as goal
 
 pub receive-requires : goal.receive-requires

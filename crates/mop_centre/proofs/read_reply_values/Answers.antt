@@ -5,7 +5,6 @@ use native.Mathlib.Omega.{arith}
 use lib.ListN.{length}
 use Rattle.mop_centre.specs.Reply.{receipt_of, unread}
 use Rattle.mop_centre.proofs.Replies.{receipt-told, stretch_room, stretch_bytes, stretch_place, not_mine_read, refused-read, no_bytes}
-use borrow.Author.Rules.{rules}
 use Rattle.mop_centre.proofs.read_reply_values.Goals as goal
 
 pub slice_bounds-result-count : goal.slice_bounds-result-count

@@ -2,7 +2,7 @@
 -- Assumes nothing.
 use mathlib.Core.Path.{◌≡◌, sym, ◌∙◌, ap}
 use native.Mathlib.Omega.{arith}
-use borrow.Author.Tests.{eqb-true, not-true, not-false}
+use borrow.Author.Tests.{eqb-true}
 use lib.ListN.{drop}
 use Rattle.mop_block.specs.Block.{first}
 use Rattle.mop_header.specs.Header.{head_of, block_start}
@@ -11,7 +11,6 @@ use Rattle.mop_reader.proofs.ReadBack.{sound-room}
 use Rattle.mop_centre.specs.Reply.{ReplyReading}
 use Rattle.base.proofs.Places.{rest_from}
 use Rattle.mop_centre.proofs.Replies.{block_room, body_from, route-room, station-read, miscounted_read, counted_read}
-use borrow.Author.Rules.{rules}
 use Rattle.mop_centre.proofs.receive.Goals as goal
 use Rattle.mop_centre.proofs.receive.Goals.{After-first}
 

@@ -2,7 +2,6 @@
 -- Assumes nothing.
 use Rattle.mop_centre.proofs.Requests.{body_stored}
 use native.Mathlib.Omega.{arith}
-use borrow.Author.Rules.{rules}
 use Rattle.mop_centre.proofs.request_body.Goals as goal
 
 pub returns : goal.returns

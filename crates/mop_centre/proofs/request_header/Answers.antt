@@ -11,7 +11,6 @@ use Rattle.mop_header.specs.Header.{head, entries, new_control}
 use Rattle.mop_header.specs.declared.Function.TheVariants.{Request}
 use Rattle.mop_header.specs.declared.Form.TheVariants.{Standard, Extended}
 use Rattle.mop_centre.proofs.Routes.{standard_head, extended_head, block-filled}
-use borrow.Author.Rules.{rules}
 use Rattle.mop_centre.proofs.request_header.Goals as goal
 
 pub returns-then-n-le3 : goal.returns-then-n-le3

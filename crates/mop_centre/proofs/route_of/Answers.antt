@@ -1,16 +1,12 @@
 -- `route_of`: the stations told so far, and those left from i on, make the whole. What is left falls.
 -- Assumes nothing.
 use mathlib.Core.Path.{◌≡◌, refl, sym, ◌∙◌}
-use Prim.Native.Nat.{◌+◌, ◌-◌, ◌≤◌, ◌<◌}
+use Prim.Native.Nat.{◌<◌}
 use native.Mathlib.Omega.{arith}
-use borrow.Author.Rules.{rules}
-use lib.ListN.{length, get_or, drop, length-set}
-use lib.Seq.{sets}
+use lib.ListN.{length, get_or, length-set}
 use Rattle.mop_block.specs.Block.{stations}
-use Rattle.mop_block.specs.Zipper.{zeros}
 use Rattle.mop_block.proofs.Scan.{zero_next}
 use Rattle.mop_header.specs.Header.{head_of}
-use Rattle.mop_centre.specs.Request.{max_route}
 use Rattle.mop_centre.proofs.Routes.{passed_over, station-told, all_told, one_fewer, told-places}
 use Rattle.mop_centre.proofs.route_of.Goals as goal
 

@@ -4,14 +4,12 @@ use mathlib.Core.Path.{◌≡◌, refl, sym, ◌∙◌, ap, ap₂}
 use mathlib.Core.List.{List}
 use Prim.Native.Nat.{ℕ, ◌+◌, ◌*◌, ◌-◌}
 use native.Mathlib.Omega.{arith}
-use borrow.Author.Tests.{not-true, not-false}
 use lib.ListN.{length, take}
 use Rattle.base.specs.Filling.{fitted}
 use Rattle.mop_header.specs.Header.{Head, telegram_of}
 use Rattle.mop_centre.specs.Request.{request_telegram}
 use Rattle.mop_centre.proofs.Routes.{route-parts}
 use Rattle.mop_centre.proofs.Requests.{bad_route, long-read, long-write, request-fitted}
-use borrow.Author.Rules.{rules}
 use Rattle.mop_centre.proofs.write_request.Goals as goal
 
 pub returns-then-not-is_route : goal.returns-then-not-is_route

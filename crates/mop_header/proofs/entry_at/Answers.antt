@@ -1,6 +1,5 @@
 use mathlib.Core.Path.{sym}
 use lib.ListN.{get_or-eq_default}
-use borrow.Author.Rules.{rules}
 use Rattle.mop_header.proofs.entry_at.Goals as goal
 
 pub returns-then-slice-place : goal.returns-then-slice-place

@@ -1,6 +1,5 @@
 -- `function_byte`: by the function.
 -- Assumes nothing.
-use borrow.Author.Rules.{rules}
 use Rattle.mop_header.proofs.function_byte.Goals as goal
 
 pub returns-in-Request : goal.returns-in-Request

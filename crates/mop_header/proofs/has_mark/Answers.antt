@@ -1,7 +1,6 @@
 -- `has_mark`: by the form.
 -- Assumes nothing.
 use Rattle.mop_header.specs.Header.{mark_is}
-use borrow.Author.Rules.{rules}
 use Rattle.mop_header.proofs.has_mark.Goals as goal
 
 pub returns-in-Standard : goal.returns-in-Standard

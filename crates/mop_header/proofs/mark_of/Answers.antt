@@ -2,7 +2,6 @@
 -- Assumes nothing.
 use mathlib.Core.Path.{sym}
 use Rattle.mop_header.proofs.Marks.{mark-request, mark_home, mark_away}
-use borrow.Author.Rules.{rules}
 use Rattle.mop_header.proofs.mark_of.Goals as goal
 
 pub returns-then-first-eq0 : goal.returns-then-first-eq0

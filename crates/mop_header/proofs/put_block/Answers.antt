@@ -2,7 +2,6 @@
 -- Assumes nothing.
 use mathlib.Core.Path.{◌∙◌}
 use Rattle.mop_header.proofs.Turns.{parts-put}
-use borrow.Author.Rules.{rules}
 use Rattle.mop_header.proofs.put_block.Goals as goal
 
 pub returns : goal.returns

@@ -1,12 +1,11 @@
 -- `put_entries`: what is put, and what is left from entry i on, make the whole.
 -- Assumes nothing.
-use Prim.Native.Nat.{ℕ, ◌≤◌, ◌+◌, ◌-◌}
-use mathlib.Core.Path.{◌≡◌, refl, sym, ◌∙◌, ap}
+use Prim.Native.Nat.{ℕ}
+use mathlib.Core.Path.{refl, sym, ◌∙◌, ap}
 use mathlib.Core.List.{List}
 use native.Mathlib.Omega.{arith}
-use lib.ListN.{length, drop, length-set, drop_of_length-le}
+use lib.ListN.{length-set, drop_of_length-le}
 use lib.Seq.{sets}
-use borrow.Author.Rules.{rules}
 use Rattle.mop_header.specs.Header.{entries}
 use Rattle.mop_header.proofs.Turns.{length-entries, entry_put}
 use Rattle.mop_header.proofs.put_entries.Goals as goal

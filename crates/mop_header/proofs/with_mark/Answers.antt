@@ -1,7 +1,6 @@
 -- `with_mark`: by the form.
 -- Assumes nothing.
 use Rattle.mop_header.specs.Header.{with_mark}
-use borrow.Author.Rules.{rules}
 use Rattle.mop_header.proofs.with_mark.Goals as goal
 
 pub returns-in-Standard : goal.returns-in-Standard

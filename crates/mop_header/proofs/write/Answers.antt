@@ -4,7 +4,6 @@ use mathlib.Core.Path.{sym}
 use native.Mathlib.Omega.{arith}
 use Rattle.mop_header.specs.Header.{head_of}
 use Rattle.mop_header.proofs.Writing.{telegram-short, telegram-written}
-use borrow.Author.Rules.{rules}
 use Rattle.mop_header.proofs.write.Goals as goal
 
 pub returns-then-out-n : goal.returns-then-out-n

@@ -5,7 +5,6 @@ use Rattle.mop_header.proofs.Lengths.{length-block, counted}
 use Rattle.mop_header.specs.Header.{head_of, block_start}
 use native.Mathlib.Omega.{arith}
 use mathlib.Core.Path.{refl, sym, ap}
-use borrow.Author.Rules.{rules}
 use Rattle.mop_header.proofs.write_header.Goals as goal
 
 pub put_block-requires : goal.put_block-requires

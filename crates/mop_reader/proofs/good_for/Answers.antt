@@ -1,9 +1,7 @@
 -- `good_for`: the block rule, and for the centre that somebody is named.
 -- Assumes nothing.
 use mathlib.Core.Path.{sym, ◌∙◌}
-use borrow.Author.Tests.{not-true, not-false}
 use Rattle.mop_reader.proofs.Readers.{none-takes, station-takes, centre_takes}
-use borrow.Author.Rules.{rules}
 use Rattle.mop_reader.proofs.good_for.Goals as goal
 
 pub returns-then-not-good_block : goal.returns-then-not-good_block

@@ -2,7 +2,6 @@
 -- Assumes nothing.
 use mathlib.Core.Path.{sym}
 use Rattle.mop_reader.proofs.Readers.{reply-allowed, station_allows, centre_allows}
-use borrow.Author.Rules.{rules}
 use Rattle.mop_reader.proofs.is_allowed.Goals as goal
 
 pub returns-then-byte-eq224 : goal.returns-then-byte-eq224

@@ -3,7 +3,6 @@
 use mathlib.Core.Path.{sym, ◌∙◌}
 use native.Mathlib.Omega.{arith}
 use Rattle.mop_reader.proofs.Marks.{second_not_mark, third_not_mark, fourth_not_mark, by_first, begins, begins-request, begins-reply}
-use borrow.Author.Rules.{rules}
 use Rattle.mop_reader.proofs.is_mark.Goals as goal
 
 pub returns-then-b-ne-MARK : goal.returns-then-b-ne-MARK

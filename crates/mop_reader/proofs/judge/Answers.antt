@@ -1,11 +1,9 @@
 -- `judge`: the block, then the mark.
 -- Assumes nothing.
 use mathlib.Core.Path.{sym, ◌∙◌, ap}
-use borrow.Author.Tests.{not-true, not-false}
 use Rattle.mop_header.specs.Header.{mark_agrees}
 use Rattle.mop_reader.specs.Reading.{sound}
 use Rattle.mop_reader.proofs.Steps.{judged-block, judged-mark, judged-sound, made-beside, made-read}
-use borrow.Author.Rules.{rules}
 use Rattle.mop_reader.proofs.judge.Goals as goal
 
 pub returns-then-not-good_for : goal.returns-then-not-good_for

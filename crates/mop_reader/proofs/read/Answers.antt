@@ -2,14 +2,11 @@
 -- Assumes nothing.
 use mathlib.Core.Path.{◌≡◌, sym, ◌∙◌, ap}
 use mathlib.Core.Bool.{Bool}
-use mathlib.Core.Logic.{⊎_elim}
 use Prim.Native.Nat.{◌+◌, ◌-◌}
 use native.Mathlib.Omega.{arith}
-use lib.ListN.{get_or, take, drop, take-append-drop}
-use borrow.Author.Rules.{rules}
-use borrow.Author.Tests.{not-true}
+use lib.ListN.{get_or, drop, take-append-drop}
 use Rattle.base.specs.Choice.{pick}
-use Rattle.mop_reader.specs.Reading.{function_at, reading_of, reading, extended_reading, standard_reading}
+use Rattle.mop_reader.specs.Reading.{function_at, reading, extended_reading, standard_reading}
 use Rattle.mop_reader.proofs.Steps.{too_long, cut, not_allowed, by_form, count_cut, count_small, count_large, block_cut, behind-mark, without_mark}
 use Rattle.mop_reader.proofs.read.Goals as goal
 use Rattle.mop_reader.proofs.read.Goals.{After-is_mark-extended, then-extended+else-telegram-lt7+else-count-lt2+else-count-gt-MAX_ENTRIES+else-telegram-end, else-extended}
@@ -55,11 +52,11 @@ unfolding function_at
 returns c =
     let tg = c.args.telegram.now in
     elim c.if-extended.branch [
-    | then-extended+else-telegram-lt7+else-count-lt2+else-count-gt-MAX_ENTRIES+else-telegram-end w ↦
-      let end : (7 + get_or tg 6 0) - 7 ≡ get_or tg 6 0 = omega arith in
-      (rw (c.form_of-form.ensures, w.if-extended.true, w.start-is, w.end-is, c.function_of-function.ensures, end) at (c.judge.ensures tg (drop (get_or tg 6 0) (drop 7 tg)))) (sym (take-append-drop (get_or tg 6 0) (drop 7 tg)))
-      ∙ sym (form-is (goal.at.returns c).After-is_mark-extended w.if-extended.true ∙ behind-mark _ tg w.if-telegram-lt7.false w.if-count-lt2.false w.if-count-gt-MAX_ENTRIES.false w.if-telegram-end.false)
-    | else-extended w ↦
-      (rw (c.form_of-form.ensures, w.if-extended.false, w.start-is, w.end-is, c.function_of-function.ensures) at (c.judge.ensures tg (drop 4 (drop 2 tg)))) (sym (take-append-drop 4 (drop 2 tg)))
-      ∙ sym (form-is (goal.at.returns c).After-is_mark-extended w.if-extended.false ∙ without_mark _ tg)
+      | then-extended+else-telegram-lt7+else-count-lt2+else-count-gt-MAX_ENTRIES+else-telegram-end w ↦
+          let end : (7 + get_or tg 6 0) - 7 ≡ get_or tg 6 0 = omega arith in
+          (rw (c.form_of-form.ensures, w.if-extended.true, w.start-is, w.end-is, c.function_of-function.ensures, end) at (c.judge.ensures tg (drop (get_or tg 6 0) (drop 7 tg)))) (sym (take-append-drop (get_or tg 6 0) (drop 7 tg)))
+          ∙ sym (form-is (goal.at.returns c).After-is_mark-extended w.if-extended.true ∙ behind-mark _ tg w.if-telegram-lt7.false w.if-count-lt2.false w.if-count-gt-MAX_ENTRIES.false w.if-telegram-end.false)
+      | else-extended w ↦
+          (rw (c.form_of-form.ensures, w.if-extended.false, w.start-is, w.end-is, c.function_of-function.ensures) at (c.judge.ensures tg (drop 4 (drop 2 tg)))) (sym (take-append-drop 4 (drop 2 tg)))
+          ∙ sym (form-is (goal.at.returns c).After-is_mark-extended w.if-extended.false ∙ without_mark _ tg)
     ]

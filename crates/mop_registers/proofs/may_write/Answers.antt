@@ -1,6 +1,5 @@
 -- `may_write`: the access at the place of the number.
 -- Assumes nothing.
-use borrow.Author.Rules.{rules}
 use Rattle.mop_registers.proofs.Columns.{write_said}
 use Rattle.mop_registers.proofs.may_write.Goals as goal
 

@@ -1,12 +1,8 @@
 -- `run_exists`: what is left of the run gives the whole. What is left falls.
 -- Assumes nothing.
 use Prim.Native.Nat.{◌+◌}
-use mathlib.Core.Path.{◌≡◌, refl, sym, ◌∙◌}
-use native.Mathlib.Omega.{arith}
-use borrow.Author.Rules.{rules}
+use mathlib.Core.Path.{◌≡◌}
 use Rattle.mop_registers.specs.Runs.{run_exists}
-use Rattle.mop_registers.proofs.Runs.{exists-steps, run_on, run_off, run-over}
-use Rattle.mop_registers.proofs.Places.{table_length_lem, place-exists, place_beyond}
 use Rattle.mop_registers.proofs.run_exists.Given as goal
 
 abbrev pub invariant-loop-left : goal.invariant-loop-left

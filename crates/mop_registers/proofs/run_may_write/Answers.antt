@@ -1,11 +1,7 @@
 -- `run_may_write`: what is left of the run gives the whole. What is left falls.
 -- Assumes nothing.
-use Prim.Native.Nat.{◌+◌}
-use mathlib.Core.Path.{◌≡◌, refl, sym, ◌∙◌}
+use mathlib.Core.Path.{refl, sym, ◌∙◌}
 use native.Mathlib.Omega.{arith}
-use borrow.Author.Rules.{rules}
-use borrow.Author.Tests.{not-true, not-false}
-use Rattle.mop_registers.specs.Runs.{run_may_write}
 use Rattle.mop_registers.proofs.Runs.{write-steps, run_on, run_off, run-over}
 use Rattle.mop_registers.proofs.run_may_write.Goals as goal
 

@@ -1,12 +1,8 @@
 -- `run_may_write`: what is left of the run gives the whole. What is left falls.
 -- Assumes nothing.
 use Prim.Native.Nat.{◌+◌}
-use mathlib.Core.Path.{◌≡◌, refl, sym, ◌∙◌}
-use native.Mathlib.Omega.{arith}
-use borrow.Author.Rules.{rules}
-use borrow.Author.Tests.{not-true, not-false}
+use mathlib.Core.Path.{◌≡◌}
 use Rattle.mop_registers.specs.Runs.{run_may_write}
-use Rattle.mop_registers.proofs.Runs.{write-steps, run_on, run_off, run-over}
 use Rattle.mop_registers.proofs.run_may_write.Given as goal
 
 abbrev pub invariant-loop-left : goal.invariant-loop-left

@@ -1,13 +1,8 @@
 -- `run_takes`: the values that are left, from the byte at i on, give the whole. What is left falls.
 -- Assumes nothing.
-use Prim.Native.Nat.{◌+◌, ◌-◌, ◌≤◌}
-use mathlib.Core.Path.{◌≡◌, refl, sym, ◌∙◌}
+use Prim.Native.Nat.{◌+◌}
+use mathlib.Core.Path.{refl, sym, ◌∙◌}
 use native.Mathlib.Omega.{arith}
-use borrow.Author.Rules.{rules}
-use borrow.Author.Tests.{not-true, not-false}
-use lib.ListN.{length, drop}
-use Rattle.base.specs.Words.{words_of}
-use Rattle.mop_registers.specs.Runs.{run_takes}
 use Rattle.mop_registers.proofs.Places.{number_bound, taken-exists}
 use Rattle.mop_registers.proofs.Values.{takes_on, takes_off, takes-over}
 use Rattle.mop_registers.proofs.run_takes.Goals as goal

@@ -1,7 +1,6 @@
 -- `takes`: the value against the range at the place of the number.
 -- Assumes nothing.
 use mathlib.Core.Path.{◌∙◌}
-use borrow.Author.Rules.{rules}
 use Rattle.mop_registers.proofs.Columns.{range_said}
 use Rattle.mop_registers.proofs.takes.Goals as goal
 

@@ -6,9 +6,7 @@ use Rattle.mop_reader.proofs.ReadBack.{sound-room}
 use Rattle.mop_reader.specs.declared.Reader.TheVariants.{Station}
 use Rattle.mop_reader.specs.declared.HeaderRead.{HeaderRead}
 use Rattle.mop_reader.specs.Reading.{reading_of}
-use borrow.Author.Tests.{not-true, not-false}
 use mathlib.Core.Path.{sym, ◌∙◌, ap}
-use borrow.Author.Rules.{rules}
 use Rattle.mop_station.proofs.handle.Goals as goal
 
 pub returns-then-not-is_station : goal.returns-then-not-is_station

@@ -10,7 +10,6 @@ use native.Mathlib.Omega.{arith}
 use Prim.Native.Nat.{ℕ}
 use mathlib.Core.List.{List}
 use mathlib.Core.Path.{◌∙◌, ap₂}
-use borrow.Author.Rules.{rules}
 use Rattle.mop_station.proofs.hear.Goals as goal
 
 pub slice_bounds-take_telegram-count : goal.slice_bounds-take_telegram-count

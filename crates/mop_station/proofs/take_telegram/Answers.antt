@@ -9,7 +9,6 @@ use native.Mathlib.Omega.{arith}
 use native.Mathlib.Nat.{sub-zero}
 use lib.ListN.{length}
 use mathlib.Core.Path.{◌≡◌, ◌∙◌, ap}
-use borrow.Author.Rules.{rules}
 use Rattle.mop_station.proofs.take_telegram.Goals as goal
 use Rattle.mop_station.proofs.take_telegram.Goals.{After-step}
 

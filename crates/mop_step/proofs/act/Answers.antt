@@ -3,7 +3,6 @@
 use Rattle.mop_step.proofs.Steps.{to-destination, to_relay, reply_to_relay}
 use Rattle.mop_step.specs.Step.{Step, lending}
 use mathlib.Core.Path.{sym, ◌∙◌, ap}
-use borrow.Author.Rules.{rules}
 use Rattle.mop_step.proofs.act.Goals as goal
 
 pub returns-then-next-eq0 : goal.returns-then-next-eq0

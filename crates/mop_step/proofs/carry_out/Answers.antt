@@ -9,7 +9,6 @@ use Rattle.mop_header.proofs.Turns.{at_slice}
 use Rattle.mop_header.specs.Header.{head_of, sent_back}
 use native.Mathlib.Omega.{arith}
 use mathlib.Core.Path.{◌≡◌, refl, sym, ◌∙◌, ap}
-use borrow.Author.Rules.{rules}
 use mathlib.Core.Bool.{not}
 use Rattle.mop_step.proofs.carry_out.Goals as goal
 use Rattle.mop_step.proofs.carry_out.Goals.{After-has_room}

@@ -5,7 +5,6 @@ use borrow.Author.Tests.{lt-leb, le-leb}
 use native.Mathlib.Omega.{arith}
 use mathlib.Core.Path.{sym}
 use Prim.Native.Nat.{◌+◌}
-use borrow.Author.Rules.{rules}
 use Rattle.mop_step.proofs.has_room.Goals as goal
 
 pub returns-then-room-n : goal.returns-then-room-n

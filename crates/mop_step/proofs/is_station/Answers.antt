@@ -2,9 +2,7 @@
 -- Assumes nothing.
 use Rattle.mop_registers.proofs.Places.{table_length_lem}
 use Rattle.mop_step.specs.Step.{is_station}
-use borrow.Author.Tests.{not-true, not-false}
 use mathlib.Core.Path.{sym, ◌∙◌}
-use borrow.Author.Rules.{rules}
 use Rattle.mop_step.proofs.is_station.Goals as goal
 
 pub returns-then-not-is_address : goal.returns-then-not-is_address

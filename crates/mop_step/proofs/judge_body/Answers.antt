@@ -4,7 +4,6 @@ use Rattle.base.proofs.Places.{take_rest}
 use mathlib.Core.Path.{sym, ◌∙◌}
 use native.Mathlib.Omega.{arith}
 use Rattle.mop_step.proofs.Bodies.{short_body, wrong_length, right_length}
-use borrow.Author.Rules.{rules}
 use Rattle.mop_step.proofs.judge_body.Goals as goal
 
 pub returns-then-n-lt6 : goal.returns-then-n-lt6

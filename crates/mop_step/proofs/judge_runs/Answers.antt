@@ -1,9 +1,7 @@
 -- `judge_runs`: the tests in their order.
 -- Assumes nothing.
 use mathlib.Core.Path.{sym, ◌∙◌}
-use borrow.Author.Tests.{not-true, not-false}
 use Rattle.mop_step.proofs.Bodies.{no-read-run, no-write-run, not_writable, out_of_range, runs_accepted}
-use borrow.Author.Rules.{rules}
 use Rattle.mop_step.proofs.judge_runs.Goals as goal
 
 pub returns-then-not-run_exists : goal.returns-then-not-run_exists

@@ -4,7 +4,6 @@ use Rattle.mop_step.proofs.Steps.{relay_short, relay_sent, short_by, room_by}
 use Rattle.mop_step.specs.Step.{Step, lending}
 use Rattle.mop_header.specs.Header.{head_of}
 use mathlib.Core.Path.{refl, sym, ap}
-use borrow.Author.Rules.{rules}
 use mathlib.Core.Bool.{not}
 use Rattle.mop_step.proofs.relay.Goals as goal
 

@@ -3,7 +3,6 @@
 use Rattle.mop_step.specs.Step.{relayed}
 use Rattle.mop_header.proofs.Turns.{at_slice}
 use mathlib.Core.Path.{sym, ◌∙◌}
-use borrow.Author.Rules.{rules}
 use Rattle.mop_step.proofs.relayed_header.Goals as goal
 
 pub returns-in-Request : goal.returns-in-Request

@@ -3,7 +3,6 @@
 use Rattle.mop_header.proofs.Turns.{at_slice}
 use Rattle.mop_header.specs.Header.{remarked, sent_back}
 use mathlib.Core.Path.{◌∙◌, ap}
-use borrow.Author.Rules.{rules}
 use Rattle.mop_step.proofs.sent_back.Goals as goal
 
 pub returns : goal.returns

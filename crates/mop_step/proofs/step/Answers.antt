@@ -3,9 +3,7 @@
 use Rattle.mop_step.proofs.Stations.{station_table}
 use Rattle.mop_step.proofs.Steps.{no-station, for_another, for_this}
 use Rattle.mop_step.specs.Step.{Step, lending}
-use borrow.Author.Tests.{not-true, not-false}
 use mathlib.Core.Path.{sym, ◌∙◌, ap}
-use borrow.Author.Rules.{rules}
 use Rattle.mop_step.proofs.step.Goals as goal
 
 pub returns-then-not-is_station : goal.returns-then-not-is_station

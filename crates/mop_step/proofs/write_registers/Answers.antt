@@ -7,7 +7,6 @@ use Rattle.base.specs.Words.{words_of}
 use Prim.Native.Nat.{ℕ}
 use mathlib.Core.List.{List}
 use mathlib.Core.Path.{◌∙◌, ap, ap₂}
-use borrow.Author.Rules.{rules}
 use Rattle.mop_step.proofs.write_registers.Goals as goal
 
 pub returns : goal.returns

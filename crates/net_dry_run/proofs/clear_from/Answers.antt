@@ -1,12 +1,8 @@
 -- `clear_from`: what is cleared, and the 0s that are left, make the whole. What is left falls.
 -- Assumes nothing.
-use Prim.Native.Nat.{◌-◌, ◌≤◌}
-use mathlib.Core.Path.{◌≡◌, refl, ◌∙◌}
+use mathlib.Core.Path.{refl, ◌∙◌}
 use native.Mathlib.Omega.{arith}
-use borrow.Author.Rules.{rules}
-use lib.ListN.{length, replicate, length-set}
-use lib.Seq.{sets}
-use Rattle.net_dry_run.specs.DryRun.{run_output}
+use lib.ListN.{length-set}
 use Rattle.net_dry_run.proofs.Outputs.{clear_step, clear_none, cleared}
 use Rattle.net_dry_run.proofs.clear_from.Goals as goal
 

@@ -1,13 +1,10 @@
 -- `clear_from`: what is cleared, and the 0s that are left, make the whole. What is left falls.
 -- Assumes nothing.
 use Prim.Native.Nat.{◌-◌, ◌≤◌}
-use mathlib.Core.Path.{◌≡◌, refl, ◌∙◌}
-use native.Mathlib.Omega.{arith}
-use borrow.Author.Rules.{rules}
-use lib.ListN.{length, replicate, length-set}
+use mathlib.Core.Path.{◌≡◌}
+use lib.ListN.{length, replicate}
 use lib.Seq.{sets}
 use Rattle.net_dry_run.specs.DryRun.{run_output}
-use Rattle.net_dry_run.proofs.Outputs.{clear_step, clear_none, cleared}
 use Rattle.net_dry_run.proofs.clear_from.Given as goal
 
 abbrev pub invariant-loop-i : goal.invariant-loop-i

@@ -5,10 +5,8 @@ use Rattle.net_dry_run.specs.DryRun.{run_of}
 use Rattle.net_hop.specs.Tables.{set_up}
 use Rattle.mop_reader.specs.declared.HeaderRead.{HeaderRead}
 use Rattle.mop_reader.specs.Reading.{reading_of}
-use borrow.Author.Tests.{not-true, not-false}
 use mathlib.Core.Path.{◌≡◌, sym, ◌∙◌, ap}
 use mathlib.Core.Bool.{true}
-use borrow.Author.Rules.{rules}
 use Rattle.net_dry_run.proofs.dry_run.Goals as goal
 use Rattle.net_dry_run.proofs.dry_run.Goals.{Else-not-is_set_up}
 

@@ -11,7 +11,6 @@ use lib.ListN.{length}
 use native.Mathlib.Omega.{arith}
 use mathlib.Core.Path.{sym, ◌∙◌, ap}
 use Prim.Native.Nat.{ℕ, ◌+◌}
-use borrow.Author.Rules.{rules}
 use Rattle.net_dry_run.proofs.end_run.Goals as goal
 
 pub overflow_add-length : goal.overflow_add-length

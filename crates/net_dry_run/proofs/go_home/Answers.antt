@@ -9,7 +9,6 @@ use native.Mathlib.Omega.{arith}
 use Prim.Native.Nat.{ℕ}
 use mathlib.Core.List.{List}
 use mathlib.Core.Path.{◌≡◌, ◌∙◌, ap₂}
-use borrow.Author.Rules.{rules}
 use Rattle.net_dry_run.proofs.go_home.Goals as goal
 use Rattle.net_dry_run.proofs.go_home.Goals.{After-walk-leg}
 

@@ -9,7 +9,6 @@ use Rattle.mop_reader.specs.declared.Reader.TheVariants.{Station}
 use Rattle.mop_header.specs.Header.{block_start}
 use lib.ListN.{drop}
 use native.Mathlib.Omega.{arith}
-use borrow.Author.Rules.{rules}
 use Rattle.net_dry_run.proofs.play.Goals as goal
 
 pub slice_bounds-run-count : goal.slice_bounds-run-count

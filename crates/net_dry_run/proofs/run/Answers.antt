@@ -10,7 +10,6 @@ use native.Mathlib.Nat.{sub-zero}
 use Prim.Native.Nat.{ℕ}
 use mathlib.Core.List.{List}
 use mathlib.Core.Path.{◌≡◌, sym, ◌∙◌, ap, ap₂}
-use borrow.Author.Rules.{rules}
 use Rattle.net_dry_run.proofs.run.Goals as goal
 use Rattle.net_dry_run.proofs.run.Goals.{After-walk-leg}
 

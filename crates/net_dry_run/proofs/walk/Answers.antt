@@ -1,16 +1,15 @@
 -- `walk`: what is left of the journey gives the whole. What is left of the turns falls.
 -- Assumes nothing.
-use Prim.Native.Nat.{◌-◌, ◌≤◌, ◌<◌}
+use Prim.Native.Nat.{◌<◌}
 use mathlib.Core.Path.{◌≡◌, refl, ◌∙◌}
 use native.Mathlib.Omega.{arith}
-use borrow.Author.Rules.{rules}
 use lib.ListN.{length}
 use Rattle.mop_header.specs.Header.{head_of}
 use Rattle.net_journey.specs.Bounded.{most_transmissions}
 use Rattle.net_hop.specs.Hop.{hop_of}
 use Rattle.net_hop.specs.declared.HopAnswer.{HopAnswer}
 use Rattle.net_hop.proofs.Hops.{Means, means_as, answered-count}
-use Rattle.net_dry_run.proofs.Legs.{Onward, leg_begins, leg_goes_on, leg_turns, leg_ends, leg_over}
+use Rattle.net_dry_run.proofs.Legs.{leg_begins, leg_goes_on, leg_turns, leg_ends, leg_over}
 use Rattle.net_dry_run.proofs.walk.Goals as goal
 use Rattle.net_dry_run.proofs.walk.Goals.{After-hop}
 

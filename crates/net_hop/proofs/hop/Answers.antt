@@ -5,7 +5,6 @@ use Rattle.mop_registers.proofs.Places.{table_length_lem}
 use native.Mathlib.Omega.{arith}
 use mathlib.Core.Path.{◌≡◌, refl, ◌∙◌}
 use Prim.Native.Nat.{suc, ◌-◌}
-use borrow.Author.Rules.{rules}
 use Rattle.net_hop.proofs.hop.Goals as goal
 
 pub returns-then-entry-eq0 : goal.returns-then-entry-eq0

@@ -3,7 +3,6 @@
 use Rattle.net_hop.proofs.Tables.{too_many, unfit, addresses_decide}
 use Rattle.mop_registers.proofs.Places.{table_length_lem}
 use mathlib.Core.Path.{sym, ◌∙◌}
-use borrow.Author.Rules.{rules}
 use Rattle.net_hop.proofs.is_set_up.Goals as goal
 
 pub returns-then-addresses-gt-MAX_STATIONS : goal.returns-then-addresses-gt-MAX_STATIONS

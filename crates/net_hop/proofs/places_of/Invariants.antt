@@ -1,14 +1,10 @@
 -- `places_of`: what is left to place gives the whole. What is left falls.
 -- Assumes nothing.
-use Prim.Native.Nat.{◌-◌, ◌≤◌, ◌<◌}
-use mathlib.Core.Path.{◌≡◌, refl}
-use native.Mathlib.Omega.{arith}
-use borrow.Author.Rules.{rules}
-use lib.ListN.{length, take, drop, length-take}
-use lib.Seq.{get_or-take}
+use Prim.Native.Nat.{◌-◌, ◌≤◌}
+use mathlib.Core.Path.{◌≡◌}
+use lib.ListN.{length, take, drop}
 use Rattle.net_hop.specs.Tables.{max_stations}
-use Rattle.net_hop.specs.Hop.{placing, bytes, places_of}
-use Rattle.net_hop.proofs.Places.{place-step, place_none}
+use Rattle.net_hop.specs.Hop.{placing, bytes}
 use Rattle.net_hop.proofs.places_of.Given as goal
 
 abbrev pub invariant-loop-i : goal.invariant-loop-i

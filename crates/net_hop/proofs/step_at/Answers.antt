@@ -6,7 +6,6 @@ use Rattle.mop_registers.specs.Rows.{table_length}
 use native.Mathlib.Omega.{arith}
 use mathlib.Core.Path.{◌≡◌, refl}
 use Prim.Native.Nat.{ℕ, ◌+◌, ◌-◌, ◌*◌}
-use borrow.Author.Rules.{rules}
 use Rattle.net_hop.proofs.step_at.Goals as goal
 
 -- how long the part is

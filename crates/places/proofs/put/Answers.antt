@@ -1,6 +1,5 @@
 -- `put`: as many bytes are copied as there are places.
 -- Assumes nothing.
-use borrow.Author.Rules.{rules}
 use mathlib.Core.Path.{◌≡◌, sym, ◌∙◌, ap}
 use Prim.Native.Nat.{ℕ, ◌-◌}
 use lib.ListN.{length, take}

@@ -1,7 +1,6 @@
 -- `four_bytes`: each remainder is a byte.
 -- Assumes nothing.
 use mathlib.Core.Path.{refl}
-use borrow.Author.Rules.{rules}
 use Rattle.signed.specs.Signed.{four_bytes}
 use Rattle.signed.proofs.four_bytes.Goals as goal
 

@@ -1,7 +1,6 @@
 -- `signed32`: the lower half is cast as it is, the upper half by way of its distance from the largest number.
 -- Assumes nothing.
 use native.Mathlib.Omega.{arith}
-use borrow.Author.Rules.{rules}
 use mir.Syntax.{w32}
 use Rattle.signed.proofs.Casts.{lower_cast, upper_fits, upper_cast}
 use Rattle.signed.proofs.signed32.Goals as goal

@@ -1,7 +1,6 @@
 -- `signed8`: the lower half is cast as it is, the upper half by way of its distance from the largest number.
 -- Assumes nothing.
 use native.Mathlib.Omega.{arith}
-use borrow.Author.Rules.{rules}
 use mir.Syntax.{w8}
 use Rattle.signed.proofs.Casts.{lower_cast, upper_fits, upper_cast}
 use Rattle.signed.proofs.signed8.Goals as goal

@@ -1,10 +1,7 @@
 -- `byte`: the steps that are left, from the running value on, give the whole. What is left falls.
 -- Assumes nothing.
-use mathlib.Core.Path.{◌≡◌, refl, sym, ◌∙◌}
-use Prim.Native.Nat.{◌≤◌, ◌-◌}
+use mathlib.Core.Path.{refl, sym, ◌∙◌}
 use native.Mathlib.Omega.{arith}
-use borrow.Author.Rules.{rules}
-use Rattle.crc16.specs.Check.{steps}
 use Rattle.crc16.specs.Ccitt.{ccitt_bit, ccitt_byte}
 use Rattle.crc16.proofs.Check.{steps-turn, steps-end}
 use Rattle.crc16.proofs.ccitt.byte.Goals as goal

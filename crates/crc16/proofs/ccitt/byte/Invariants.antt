@@ -1,12 +1,9 @@
 -- `byte`: the steps that are left, from the running value on, give the whole. What is left falls.
 -- Assumes nothing.
-use mathlib.Core.Path.{◌≡◌, refl, sym, ◌∙◌}
+use mathlib.Core.Path.{◌≡◌}
 use Prim.Native.Nat.{◌≤◌, ◌-◌}
-use native.Mathlib.Omega.{arith}
-use borrow.Author.Rules.{rules}
 use Rattle.crc16.specs.Check.{steps}
 use Rattle.crc16.specs.Ccitt.{ccitt_bit, ccitt_byte}
-use Rattle.crc16.proofs.Check.{steps-turn, steps-end}
 use Rattle.crc16.proofs.ccitt.byte.Given as goal
 
 abbrev pub invariant-loop-i : goal.invariant-loop-i

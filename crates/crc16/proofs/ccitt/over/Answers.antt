@@ -1,11 +1,7 @@
 -- `over`: the check over the bytes that are left, from the running value on, is the whole. What is left falls.
 -- Assumes nothing.
-use mathlib.Core.Path.{◌≡◌, refl, sym, ◌∙◌}
-use Prim.Native.Nat.{◌≤◌, ◌-◌}
+use mathlib.Core.Path.{refl, sym, ◌∙◌}
 use native.Mathlib.Omega.{arith}
-use borrow.Author.Rules.{rules}
-use lib.ListN.{length, drop}
-use Rattle.crc16.specs.Check.{run_over}
 use Rattle.crc16.specs.Ccitt.{ccitt_byte, ccitt_over}
 use Rattle.crc16.proofs.Check.{run-turn, run_end}
 use Rattle.crc16.proofs.ccitt.over.Goals as goal

@@ -3,7 +3,6 @@
 use mathlib.Core.Path.{◌∙◌}
 use native.Mathlib.Omega.{arith}
 use Rattle.mop_header.proofs.Turns.{entry_none, entry_more, entry_past}
-use borrow.Author.Rules.{rules}
 use Rattle.mop_header.proofs.Header.entry.Goals as goal
 
 pub returns-then-count-place : goal.returns-then-count-place

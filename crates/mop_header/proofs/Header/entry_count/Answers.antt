@@ -1,7 +1,6 @@
 -- `entry_count`: the count.
 -- Assumes nothing.
 use mathlib.Core.Path.{sym}
-use borrow.Author.Rules.{rules}
 use Rattle.mop_header.proofs.Lengths.{length-block}
 use Rattle.mop_header.proofs.Header.entry_count.Goals as goal
 

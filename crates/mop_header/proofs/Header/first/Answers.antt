@@ -1,7 +1,6 @@
 -- `first`: the entry at place 0.
 -- Assumes nothing.
 use Rattle.mop_block.specs.Block.{first}
-use borrow.Author.Rules.{rules}
 use Rattle.mop_header.proofs.Header.first.Goals as goal
 
 pub returns : goal.returns

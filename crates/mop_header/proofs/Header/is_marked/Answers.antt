@@ -2,7 +2,6 @@
 -- Assumes nothing.
 use mathlib.Core.Path.{◌∙◌, ap}
 use Rattle.mop_header.specs.Header.{mark_byte, mark_is, mark_agrees}
-use borrow.Author.Rules.{rules}
 use Rattle.mop_header.proofs.Header.is_marked.Goals as goal
 
 pub returns : goal.returns

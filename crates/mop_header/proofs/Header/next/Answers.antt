@@ -1,7 +1,6 @@
 -- `next`: the entry at place 1.
 -- Assumes nothing.
 use Rattle.mop_block.specs.Block.{next}
-use borrow.Author.Rules.{rules}
 use Rattle.mop_header.proofs.Header.next.Goals as goal
 
 pub returns : goal.returns

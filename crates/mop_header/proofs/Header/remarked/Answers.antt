@@ -4,7 +4,6 @@ use mathlib.Core.Path.{◌∙◌, ap}
 use Rattle.mop_header.specs.Header.{head, entries, mark_byte, with_mark, remarked}
 use Rattle.mop_block.specs.Block.{rolled}
 use Rattle.mop_header.specs.declared.Form.{Form}
-use borrow.Author.Rules.{rules}
 use Rattle.mop_header.proofs.Header.remarked.Goals as goal
 
 pub returns : goal.returns

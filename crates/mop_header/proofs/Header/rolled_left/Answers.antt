@@ -4,7 +4,6 @@ use mathlib.Core.Path.{◌∙◌, ap}
 use native.Mathlib.Omega.{arith}
 use Rattle.mop_header.specs.Header.{head, rolled_left}
 use Rattle.mop_header.proofs.Turns.{for_each, left_more, left_last}
-use borrow.Author.Rules.{rules}
 use Rattle.mop_header.proofs.Header.rolled_left.Goals as goal
 
 pub returns-then-self-at-gt1 : goal.returns-then-self-at-gt1

@@ -4,7 +4,6 @@ use mathlib.Core.Path.{◌∙◌, ap}
 use native.Mathlib.Omega.{arith}
 use Rattle.mop_header.specs.Header.{head, rolled_right}
 use Rattle.mop_header.proofs.Turns.{for_each, right_more, right_first, none_right}
-use borrow.Author.Rules.{rules}
 use Rattle.mop_header.proofs.Header.rolled_right.Goals as goal
 
 pub returns-then-at-gt0 : goal.returns-then-at-gt0
