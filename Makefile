@@ -71,6 +71,8 @@ send: target/bin/telegram
 
 # All that the crates are made of. What rt keeps of them, in crates/NAME/out, is no part of it; folders are, for files that go.
 SOURCES := crates.txt $(shell find crates -mindepth 2 -name out -prune -o -print)
+# Nothing makes them; so make need not look for how.
+$(SOURCES): ;
 
 # The programs are proved and built when anything below crates has changed since they were built.
 target/bin/dry_run target/bin/run_cases target/bin/run_send_cases: $(SOURCES)
