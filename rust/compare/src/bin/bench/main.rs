@@ -87,8 +87,9 @@ fn method(options: &Options) {
 - Ratio: time of plain Rust divided by time of the library, as the median over the pairs of
   samples, with its quartiles. At 1 and above the library is at least as fast.
 - Plain Rust is optimised by cargo (release: opt-level 3, link-time optimisation, one unit), the
-  library as a whole by `rt staticlib`, which takes no options. The plain functions are not inlined
-  (inline(never)), as those of the library are in an archive and cannot be.
+  library by `rt lib`, which takes no options, a static library for each crate of exports. The
+  plain functions are not inlined (inline(never)), as those of the library are in an archive and
+  cannot be.
 - A frame, a block that is sent and a gate telegram are measured by their bytes of data, receiving
   by the bytes fed: million bytes a second.
 - Before that, library, plain Rust and reference gave the same answers and left the same buffers.
