@@ -69,12 +69,14 @@ bus: target/bin/telegram
 send: target/bin/telegram
 	@target/bin/telegram send "$$PRIORITY" "$$CONNECTIONS" "$$BLOCKS" "$$DATA" "$$BYTES"
 
+# All that the crates are made of. What rt keeps of them, in crates/NAME/out, is no part of it; folders are, for files that go.
+SOURCES := crates.txt $(shell find crates -mindepth 2 -name out -prune -o -print)
+# Nothing makes them; so make need not look for how.
+$(SOURCES): ;
+
 # The programs are proved and built when anything below crates has changed since they were built.
-target/bin/dry_run target/bin/run_cases: crates.txt $(shell find crates)
-	@printf 'Proving what is played (a minute or two from a fresh clone) ..\n'
-	@mkdir -p target
-	@rt check $(@F) >target/$(@F).log 2>&1 || { cat target/$(@F).log; exit 1; }
-	@touch $@
+target/bin/dry_run target/bin/run_cases target/bin/run_send_cases: $(SOURCES)
+	@sh scripts/program $(@F)
 
 # The example for C, compiled when it, the header or the library has changed.
 target/bin/telegram: examples/c/telegram.c include/hanraquin.h target/staticlib/libhanraquin.a
@@ -85,14 +87,15 @@ target/bin/telegram: examples/c/telegram.c include/hanraquin.h target/staticlib/
 test:
 	@sh scripts/test
 
-# The library for C and Rust: the crates whose functions it has, and its archive. A group that is added names its c_ crate here.
-LIBRARY = c_link c_link_send c_mop c_net c_gate
+# The library for C and Rust: the crates that export its functions, and its archive. A group that is added names its crate of
+# exports here.
+LIBRARY = c_link_c c_link_send_c c_mop_c c_net_c c_gate_c
 ARCHIVE = target/staticlib/libhanraquin.a
 
-# Proves and builds the library, unless nothing has changed since it was built. The folders are in the list for files that go.
+# Proves and builds the library, unless nothing has changed since it was built.
 staticlib: $(ARCHIVE)
 
-$(ARCHIVE): crates.txt Makefile scripts/archive $(shell find crates)
+$(ARCHIVE): Makefile scripts/archive $(SOURCES)
 	@printf 'Proving and compiling the library for C and Rust: %s ..\n' "$@"
 	@sh scripts/archive $@ $(LIBRARY)
 

@@ -36,13 +36,7 @@ fn of_writing(answer: GateWritten) -> u64
 }
 
 // The telegram from source to destination with the data: gate_telegram::write. The value is its length.
-#[unsafe(no_mangle)]
-pub extern "C" fn hanraquin_gate_write(
-    destination: u8,
-    source: u8,
-    src: &[u8],
-    out: &mut [u8],
-) -> u64
+pub fn hanraquin_gate_write(destination: u8, source: u8, src: &[u8], out: &mut [u8]) -> u64
     ensures { written result out.new ≡ write_call destination source src.now out.old }
 {
     of_writing(gate_telegram::write(destination, source, src, &mut *out))
@@ -282,8 +276,7 @@ fn receive_at(own: u8, words: &mut [u64], store: &mut [u8], event: u32, out: &mu
 // the source and the number of data bytes for a telegram; 131072 and the source for a token.
 // Refused with 1, and all as it was: an event that is neither a byte nor the timer, numbers that are no state, and what the
 // receiver refuses so. Every other refusal leaves seven zeros.
-#[unsafe(no_mangle)]
-pub extern "C" fn hanraquin_gate_receive(
+pub fn hanraquin_gate_receive(
     own: u8,
     state: &mut [u64],
     store: &mut [u8],
@@ -379,8 +372,7 @@ fn operate_at(src: &[u8], levels: &mut [u8], edges: &mut [u8]) -> u64
 
 // An operating command carried out on ten levels and ten edges: gate_commands::operate. The value is 1 for ack and 2 for nak.
 // Refused, and all as it was: 1 for levels or edges that are not ten, or one above 1; then what operate refuses, 7 and 3.
-#[unsafe(no_mangle)]
-pub extern "C" fn hanraquin_gate_operate(src: &[u8], levels: &mut [u8], edges: &mut [u8]) -> u64
+pub fn hanraquin_gate_operate(src: &[u8], levels: &mut [u8], edges: &mut [u8]) -> u64
     ensures { operated result levels.new edges.new ≡ operate_call src.now levels.old edges.old }
 {
     if !is_bits(&*levels) {
@@ -393,8 +385,7 @@ pub extern "C" fn hanraquin_gate_operate(src: &[u8], levels: &mut [u8], edges: &
 }
 
 // The operating command with these two bytes: gate_commands::write_command. The value is its length.
-#[unsafe(no_mangle)]
-pub extern "C" fn hanraquin_gate_write_command(command: u8, function: u8, out: &mut [u8]) -> u64
+pub fn hanraquin_gate_write_command(command: u8, function: u8, out: &mut [u8]) -> u64
     ensures { written result out.new ≡ write_command_call command function out.old }
 {
     of_writing(gate_commands::write_command(command, function, &mut *out))
@@ -437,8 +428,7 @@ fn answer_at(kind: u8, number: i32) -> AnswerRead
 
 // The answer with this kind, its first byte, and this number: gate_answers::write_answer. The value is its length.
 // Refused, and out as it was: 3 for an unknown kind; then what the writer refuses, 10 and 11. The number is judged as it is.
-#[unsafe(no_mangle)]
-pub extern "C" fn hanraquin_gate_write_answer(kind: u8, number: i32, out: &mut [u8]) -> u64
+pub fn hanraquin_gate_write_answer(kind: u8, number: i32, out: &mut [u8]) -> u64
     ensures { written result out.new ≡ write_answer_call kind number out.old }
 {
     match answer_at(kind, number) {
@@ -475,8 +465,7 @@ fn number_of(answer: BarrierAnswer) -> i32
 // The answer that bytes are: gate_answers::read_answer. The value is its kind; its number, or 0 where it has none, is put
 // into number. Refused, and the number as it was: 1 for a number that does not have one place; then what the reader refuses,
 // 7, 3 and 10.
-#[unsafe(no_mangle)]
-pub extern "C" fn hanraquin_gate_read_answer(src: &[u8], number: &mut [i32]) -> u64
+pub fn hanraquin_gate_read_answer(src: &[u8], number: &mut [i32]) -> u64
     ensures { answer_told result number.new ≡ read_answer_call src.now number.old }
 {
     if number.len() != 1 {

@@ -13,8 +13,7 @@ use link_receive::{Dle, LinkAnswer, LinkEvent, LinkState, Phase};
 use refusal::Refusal;
 
 // The frame of the data in the first places of out: link_frame::frame. The value is the frame's length.
-#[unsafe(no_mangle)]
-pub extern "C" fn hanraquin_frame(src: &[u8], out: &mut [u8]) -> u64
+pub fn hanraquin_frame(src: &[u8], out: &mut [u8]) -> u64
     ensures { written result out.new ≡ frame_call src.now out.old }
 {
     c_answer::of_writing(link_frame::frame(src, &mut *out))
@@ -116,8 +115,7 @@ fn receive_at(words: &mut [u64], event: u32, buffer: &mut [u8]) -> u64
 // for nothing to do, 256 and a byte to send, or 65536 and the length of a message, for which a DLE is to be sent.
 // Refused with 1, and all as it was: an event that is neither a byte nor the timer, numbers that are no state, and a state
 // against its buffer.
-#[unsafe(no_mangle)]
-pub extern "C" fn hanraquin_receive(state: &mut [u64], event: u32, buffer: &mut [u8]) -> u64
+pub fn hanraquin_receive(state: &mut [u64], event: u32, buffer: &mut [u8]) -> u64
     ensures { received result state.new buffer.new ≡ receive_call state.old event buffer.old }
 {
     if TIMER < event {

@@ -217,8 +217,7 @@ fn send_at(words: &mut [u64], event: u32, src: &[u8], buffer: &mut [u8], out: &m
 // one more than its length is added.
 // Refused, and all as it was: 1 for an event that is neither a byte nor the timer nor the start, numbers that are no sender, and
 // what the sender refuses so; then what else it refuses, 12 and 11.
-#[unsafe(no_mangle)]
-pub extern "C" fn hanraquin_send(
+pub fn hanraquin_send(
     state: &mut [u64],
     event: u32,
     src: &[u8],

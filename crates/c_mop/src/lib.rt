@@ -26,21 +26,14 @@ fn of_handled(answer: StationAnswer) -> u64
 }
 
 // One telegram at a station: mop_station::handle. The value is the length of what is sent.
-#[unsafe(no_mangle)]
-pub extern "C" fn hanraquin_station(
-    own: u8,
-    registers: &mut [u16],
-    telegram: &[u8],
-    out: &mut [u8],
-) -> u64
+pub fn hanraquin_station(own: u8, registers: &mut [u16], telegram: &[u8], out: &mut [u8]) -> u64
     ensures { at_station result registers.new out.new ≡ station_call own registers.old telegram.now out.old }
 {
     of_handled(mop_station::handle(own, &mut *registers, telegram, &mut *out))
 }
 
 // A request to the last station of the route: mop_centre::write_request. The value is the telegram's length.
-#[unsafe(no_mangle)]
-pub extern "C" fn hanraquin_write_request(
+pub fn hanraquin_write_request(
     route: &[u8],
     rstart: u16,
     rcount: usize,
@@ -87,8 +80,7 @@ fn tell_reply(telegram: &[u8], route: &mut [u8], run: &mut [u16]) -> u64
 // run is the start, the count, and the place of the first byte of the values in the telegram. The value is the number of these
 // bytes.
 // Not mine, or refused: 0 in all these places. Refused with 1, and all as it was: a route or a run of another length.
-#[unsafe(no_mangle)]
-pub extern "C" fn hanraquin_read_reply(telegram: &[u8], route: &mut [u8], run: &mut [u16]) -> u64
+pub fn hanraquin_read_reply(telegram: &[u8], route: &mut [u8], run: &mut [u16]) -> u64
     ensures { reply_told result route.new run.new ≡ read_reply_call telegram.now route.old run.old }
 {
     if route.len() != MAX_ROUTE {

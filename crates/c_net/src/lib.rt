@@ -51,8 +51,7 @@ fn of_outcome(answer: DryRunAnswer, res: &mut [u32]) -> u64
 // The dry run of a telegram: net_dry_run::dry_run. The value is the count of transmissions; result is the count, the ending (0 at an
 // entry 00, 1 at an address that nobody has, else the number of the station's refusal), and the length of the last telegram.
 // Refused with 1, and all as it was: a result of another length than 3. Every refusal leaves the result as it was.
-#[unsafe(no_mangle)]
-pub extern "C" fn hanraquin_dry_run(
+pub fn hanraquin_dry_run(
     telegram: &[u8],
     addresses: &[u8],
     tables: &mut [u16],

@@ -1,12 +1,14 @@
 // A program: the telegram on standard input is played over three stations, which have factory values and, in hex, the addresses
 // 12, 13 and 55; its journey is told on standard output.
+#![tactic(auto)]
+
 ghost use Rattle.std.specs.Prelude.{◌≡◌, ◌++◌, ◌+◌, ◌≤◌, length};
 ghost use Rattle.std.proofs.lemmas.List.Edits.{sets};
 ghost use Rattle.mop_registers.specs.Rows.{factory};
 
-use libc::{STDIN_FILENO, STDOUT_FILENO};
 use mop_registers::TABLE_LENGTH;
 use refusal::WriteAnswer;
+use std::io;
 
 // The places of the tables of three stations.
 const PLACES: usize = 3 * TABLE_LENGTH;
@@ -35,17 +37,18 @@ fn factory_tables() -> [u16; PLACES]
     tables
 }
 
-fn main() {
+fn main(rt: HostRuntime) -> io::Result<()> {
     // One byte more than a telegram may have shows that it is too long.
     let mut input = [0u8; 1025];
-    let n = io::read_full(STDIN_FILENO, &mut input);
+    let n = streams::read_full(&mut rt.stdin(), &mut input)?;
     let addresses = [0x12u8, 0x13, 0x55];
     let mut tables = factory_tables();
     let mut text = [0u8; 6500];
     let answer = net_report::report(&input[..n], &addresses, &mut tables, &mut text);
     if let WriteAnswer::Written(length) = answer {
         if length <= text.len() {
-            io::write_all(STDOUT_FILENO, &text[0..length]);
+            rt.write_all(&text[0..length])?;
         }
     }
+    Ok(())
 }

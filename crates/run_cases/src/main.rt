@@ -1,5 +1,7 @@
 // What is only run. Without an argument: the calls at their limits, and the receiving half's table row by row.
 // `frame` frames standard input and feeds the frame back; `listen` feeds standard input to a receiving half.
+#![tactic(auto)]
+
 mod centre_limits;
 mod gate_limits;
 mod limits;
@@ -10,47 +12,52 @@ mod register_limits;
 mod show;
 mod station_limits;
 
-use libc::STDERR_FILENO;
+use std::env::FillError;
+use std::io;
+use std::rt::Env;
+use streams::Screen;
 
 // All calls at their limits.
-fn show_limits() {
-    limits::rows();
-    station_limits::setups();
-    station_limits::lengths();
-    station_limits::outputs();
-    station_limits::bodies();
-    station_limits::times();
-    register_limits::places();
-    net_limits::setups();
-    net_limits::counts();
-    net_limits::orders();
-    centre_limits::routes();
-    centre_limits::requests();
-    centre_limits::blocks();
-    centre_limits::replies();
-    gate_limits::telegrams();
-    gate_limits::bytes();
-    gate_limits::ends();
-    gate_limits::barrier();
-    gate_limits::answers();
+fn show_limits(screen: &mut Screen) {
+    limits::rows(screen);
+    station_limits::setups(screen);
+    station_limits::lengths(screen);
+    station_limits::outputs(screen);
+    station_limits::bodies(screen);
+    station_limits::times(screen);
+    register_limits::places(screen);
+    net_limits::setups(screen);
+    net_limits::counts(screen);
+    net_limits::orders(screen);
+    centre_limits::routes(screen);
+    centre_limits::requests(screen);
+    centre_limits::blocks(screen);
+    centre_limits::replies(screen);
+    gate_limits::telegrams(screen);
+    gate_limits::bytes(screen);
+    gate_limits::ends(screen);
+    gate_limits::barrier(screen);
+    gate_limits::answers(screen);
 }
 
-// Where there is no argument the word is all 00. One of fewer than 8 bytes has 00s behind it; of a longer one only the first
-// 8 bytes, none of them 00, can stand here.
-fn main() {
+// What is written about an argument that names no mode.
+fn show_usage(rt: &HostRuntime) -> io::Result<()> {
+    eprintln!(rt; "usage: run_cases [frame | listen]")
+}
+
+// What the first argument asks for: no argument, or an empty one, the limits. One of more than 8 bytes names no mode.
+fn main(rt: HostRuntime) -> io::Result<()> {
+    let mut screen = Screen::new(rt.stdout());
     let mut word = [0u8; 8];
-    os::arg(1, &mut word);
-    if word[0] == 0 {
-        show_limits();
-        return;
+    match rt.arg(1, &mut word) {
+        Err(FillError::NotPresent) => show_limits(&mut screen),
+        Err(FillError::TooLong) => show_usage(&rt)?,
+        Ok(n) => match &word[..n] {
+            b"" => show_limits(&mut screen),
+            b"listen" => link::listen(&rt, &mut screen)?,
+            b"frame" => link::frame(&rt, &mut screen)?,
+            _ => show_usage(&rt)?,
+        },
     }
-    if check::same(&word, b"listen\0\0") {
-        link::listen();
-        return;
-    }
-    if check::same(&word, b"frame\0\0\0") {
-        link::frame();
-        return;
-    }
-    io::write_all(STDERR_FILENO, b"usage: run_cases [frame | listen]\n");
+    screen.finish()
 }

@@ -1,5 +1,6 @@
 // What stays of a buffer.
 use crate::show;
+use streams::Screen;
 
 // What buffers hold before a call.
 pub(crate) const BEFORE: u8 = 0xEE;
@@ -18,13 +19,13 @@ fn first_other(s: &[u8], n: usize, b: u8) -> usize {
 
 // How far the places are as before, from n on. If that is not to the end: the byte there, and how far those behind it are
 // as before.
-pub(crate) fn show_kept(s: &[u8], n: usize) {
+pub(crate) fn show_kept(screen: &mut Screen, s: &[u8], n: usize) {
     let at = first_other(s, n, BEFORE);
-    show::text(b"; kept to");
-    show::number(at);
+    show::text(screen, b"; kept to");
+    show::number(screen, at);
     if at < s.len() {
-        show::byte(s[at]);
-        show::number(first_other(s, at + 1, BEFORE));
+        show::byte(screen, s[at]);
+        show::number(screen, first_other(s, at + 1, BEFORE));
     }
-    show::mark(b'\n');
+    show::mark(screen, b'\n');
 }

@@ -1,22 +1,22 @@
-// Numbers, bytes and answers as text on standard output.
+// Numbers, bytes and answers as text on the screen.
 use crate::parts;
-use libc::STDOUT_FILENO;
 use link_receive::{Dle, LinkState, Phase};
 use refusal::Refusal;
+use streams::Screen;
 
-pub(crate) fn text(s: &[u8]) {
-    io::write_all(STDOUT_FILENO, s);
+pub(crate) fn text(screen: &mut Screen, s: &[u8]) {
+    screen.text(s);
 }
 
 // One character.
-pub(crate) fn mark(c: u8) {
-    text(&[c]);
+pub(crate) fn mark(screen: &mut Screen, c: u8) {
+    text(screen, &[c]);
 }
 
 // A number, after a space.
-pub(crate) fn number(n: usize) {
-    mark(b' ');
-    io::print_decimal(STDOUT_FILENO, n as u64);
+pub(crate) fn number(screen: &mut Screen, n: usize) {
+    mark(screen, b' ');
+    screen.decimal(n);
 }
 
 // The last hex digit of a number, as a capital.
@@ -26,50 +26,50 @@ fn hex_digit(n: u8) -> u8 {
 }
 
 // A byte in two hex digits, after a space.
-pub(crate) fn byte(b: u8) {
-    text(&[b' ', hex_digit(b / 16), hex_digit(b)]);
+pub(crate) fn byte(screen: &mut Screen, b: u8) {
+    text(screen, &[b' ', hex_digit(b / 16), hex_digit(b)]);
 }
 
-fn each_byte(s: &[u8]) {
+fn each_byte(screen: &mut Screen, s: &[u8]) {
     let mut i: usize = 0;
     while i < s.len() {
-        byte(s[i]);
+        byte(screen, s[i]);
         i += 1;
     }
 }
 
 // The bytes, if there are any, after a colon.
-fn bytes(s: &[u8]) {
+fn bytes(screen: &mut Screen, s: &[u8]) {
     if 0 < s.len() {
-        mark(b':');
-        each_byte(s);
+        mark(screen, b':');
+        each_byte(screen, s);
     }
 }
 
-pub(crate) fn refusal(r: Refusal) {
-    text(b": refused");
-    number(r.number() as usize);
+pub(crate) fn refusal(screen: &mut Screen, r: Refusal) {
+    text(screen, b": refused");
+    number(screen, r.number() as usize);
 }
 
 // The length of what is written, and its end, no more than so many bytes.
-pub(crate) fn filled(out: &[u8], n: usize, most: usize) {
-    text(b": written");
-    number(n);
-    bytes(parts::last(parts::of(out, n), most));
+pub(crate) fn filled(screen: &mut Screen, out: &[u8], n: usize, most: usize) {
+    text(screen, b": written");
+    number(screen, n);
+    bytes(screen, parts::last(parts::of(out, n), most));
 }
 
 // Phase, check and count. The phase is R at rest, I inside, D inside after DLE, or W waiting.
-pub(crate) fn state(s: LinkState) {
+pub(crate) fn state(screen: &mut Screen, s: LinkState) {
     let phase = s.phase;
-    mark(b' ');
+    mark(screen, b' ');
     match phase {
-        Phase::Rest => mark(b'R'),
+        Phase::Rest => mark(screen, b'R'),
         Phase::Inside(dle) => match dle {
-            Dle::NotSeen => mark(b'I'),
-            Dle::Seen => mark(b'D'),
+            Dle::NotSeen => mark(screen, b'I'),
+            Dle::Seen => mark(screen, b'D'),
         },
-        Phase::Waiting => mark(b'W'),
+        Phase::Waiting => mark(screen, b'W'),
     }
-    byte(s.check);
-    number(s.count);
+    byte(screen, s.check);
+    number(screen, s.count);
 }

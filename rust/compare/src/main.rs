@@ -1,7 +1,8 @@
 //! Compares the proved library and programs with the reference.
 //!
-//! - `compare RUN_CASES DRY_RUN [SEED]` makes direct calls of the library, runs the two proved
-//!   programs on many inputs, and compares all that they answer, change and print.
+//! - `compare RUN_CASES RUN_SEND_CASES DRY_RUN [SEED]` makes direct calls of the library, runs the
+//!   three proved programs, two of them on many inputs, and compares all that they answer, change
+//!   and print.
 //! - `compare --direct [SEED]` makes the direct calls only.
 //! - `compare --soak [MINUTES] [SEED]` makes direct calls with new seeds until the time is over.
 
@@ -15,7 +16,7 @@ use std::io;
 use std::process::ExitCode;
 use std::time::{Duration, Instant};
 
-const USAGE: &str = "usage: compare RUN_CASES DRY_RUN [SEED]
+const USAGE: &str = "usage: compare RUN_CASES RUN_SEND_CASES DRY_RUN [SEED]
        compare --direct [SEED]
        compare --soak [MINUTES] [SEED]";
 
@@ -37,8 +38,8 @@ fn main() -> Result<ExitCode, Box<dyn Error>> {
         ["--soak"] => long_run(MINUTES, SEED),
         ["--soak", minutes] => long_run(minutes.parse()?, SEED),
         ["--soak", minutes, seed] => long_run(minutes.parse()?, seed.parse()?),
-        [run_cases, dry_run] => everything(run_cases, dry_run, SEED)?,
-        [run_cases, dry_run, seed] => everything(run_cases, dry_run, seed.parse()?)?,
+        [run_cases, run_send_cases, dry_run] => everything(run_cases, run_send_cases, dry_run, SEED)?,
+        [run_cases, run_send_cases, dry_run, seed] => everything(run_cases, run_send_cases, dry_run, seed.parse()?)?,
         _ => return Err(USAGE.into()),
     };
     Ok(if right { ExitCode::SUCCESS } else { ExitCode::FAILURE })
@@ -50,9 +51,9 @@ fn long_run(minutes: f64, seed: u64) -> bool {
 }
 
 /// The direct calls, and then the programs.
-fn everything(run_cases: &str, dry_run: &str, seed: u64) -> io::Result<bool> {
+fn everything(run_cases: &str, run_send_cases: &str, dry_run: &str, seed: u64) -> io::Result<bool> {
     let start = Instant::now();
-    let right = direct_calls(seed, SEEDS, None) && programs::compare(run_cases, dry_run, seed)?;
+    let right = direct_calls(seed, SEEDS, None) && programs::compare(run_cases, run_send_cases, dry_run, seed)?;
     println!("the comparison took {:.1} s in all", start.elapsed().as_secs_f64());
     Ok(right)
 }

@@ -1,6 +1,6 @@
-//! The rows that `run_cases` prints of the calls at their limits, in one table for each call. A row
-//! tells a call and, behind a colon, what came of it. The call is made of the reference, which must
-//! tell the same.
+//! The rows that `run_cases` and, of the sender, `run_send_cases` print of the calls at their limits,
+//! in one table for each call. A row tells a call and, behind a colon, what came of it. The call is
+//! made of the reference, which must tell the same.
 
 mod gate;
 

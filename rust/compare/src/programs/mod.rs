@@ -61,9 +61,9 @@ const PROGRAM: Mode = Mode {
 
 /// Runs the programs on many inputs; false at the first wrong text, and where a text that is needed
 /// did not come.
-pub fn compare(run_cases: &str, dry_run: &str, seed: u64) -> io::Result<bool> {
+pub fn compare(run_cases: &str, run_send_cases: &str, dry_run: &str, seed: u64) -> io::Result<bool> {
     println!("texts of the programs, seed {seed}");
-    let rows = run(run_cases, None, &[], 1)?;
+    let rows = [run(run_cases, None, &[], 1)?, run(run_send_cases, None, &[], 1)?].concat();
     let rows = String::from_utf8_lossy(&rows);
     if let Some(wrong) = wrong_row(&rows) {
         println!("limits: WRONG: {wrong}");
@@ -215,8 +215,11 @@ mod tests {
 
     #[test]
     fn rows_at_the_limits() {
-        let file = concat!(env!("CARGO_MANIFEST_DIR"), "/../../crates/run_cases/stdout");
-        let rows = std::fs::read_to_string(file).expect("the rows that run_cases prints");
+        let rows = ["run_cases", "run_send_cases"].map(|program| {
+            let file = format!("{}/../../crates/{program}/stdout", env!("CARGO_MANIFEST_DIR"));
+            std::fs::read_to_string(file).expect("the rows that the program prints")
+        });
+        let rows = rows.concat();
         assert_eq!(wrong_row(&rows), None);
         for (row, wrong) in [
             ("sent 9", "sent 8"),

@@ -1,0 +1,7 @@
+-- What is filled stays within the buffer.
+-- Assumes nothing.
+use Rattle.std.proofs.Common.{◌≤◌, length}
+use Rattle.streams.proofs.read_full.Given as goal
+
+abbrev pub invariant-loop : goal.invariant-loop
+invariant-loop g l = l.filled ≤ length l.buffer
