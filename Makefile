@@ -83,7 +83,7 @@ target/bin/telegram: examples/c/telegram.c include/hanraquin.h target/staticlib/
 	@mkdir -p target/bin
 	@$(CC) -std=c99 -O2 -Wall -Wextra -Wpedantic -Iinclude $< target/staticlib/libhanraquin.a -o $@
 
-# Proves and tests everything, from nothing.
+# Proves and tests everything; what an earlier run on this machine passed is not proved again.
 test:
 	@sh scripts/test
 
