@@ -48,9 +48,9 @@ fn of_outcome(answer: DryRunAnswer, res: &mut [u32]) -> u64
     }
 }
 
-// The dry run of a telegram: net_dry_run::dry_run. The value is the count of transmissions; result is the count, the ending (0 at an
+// The dry run of a telegram: net_dry_run::dry_run. The value is the count of transmissions; res is the count, the ending (0 at an
 // entry 00, 1 at an address that nobody has, else the number of the station's refusal), and the length of the last telegram.
-// Refused with 1, and all as it was: a result of another length than 3. Every refusal leaves the result as it was.
+// Refused with 1, and all as it was: a res of another length than 3. Every refusal leaves res as it was.
 pub fn hanraquin_dry_run(
     telegram: &[u8],
     addresses: &[u8],
