@@ -4,8 +4,8 @@
 usage: python3 tools/rename_names.py            at the top of the repository, once, after the kit's own script
 
 A name is renamed where a file of specs/ or proofs/ declares it, in every file of crates/: in .antt files everywhere, in .rt files
-inside ghost items and clauses. A dash stays where it joins the names of definitions, as in length-telegram; elsewhere it becomes _.
-Where two names fall together, the lemma gets _lem behind it. Types, modules, and whatever src/ declares keep their names.
+inside ghost items and clauses. Where two names fall together, the lemma gets _lem behind it. Types, modules, the names that the
+check makes (goals and steps), and whatever src/ declares keep their names.
 """
 
 import os
@@ -17,9 +17,6 @@ STOP = " \t\n(){}[],;.:`\"|"
 TOKEN = re.compile(r"[^\s(){}\[\],;.:`\"|]+")
 WORDS = {"use", "mod", "module", "let", "unfolding", "open", "where", "in", "record", "data", "abbrev", "pub", "unfoldable", "opaque"}
 SIGNATURE = re.compile(r"\s*((?:(?:abbrev|opaque|unfoldable|pub|instance|record|data|ruleset)\s+)*)([^\s(){}\[\],;:.=|@`\"]+)(?:\s*[({][^=]*)?\s*:(?:\s|$)")
-# Names of the library that the lemmas' names begin with.
-LIBRARY = {"length", "take", "drop", "set", "sets", "append", "replicate", "get_or", "reverse", "map", "put", "sum"}
-
 
 # Lemmas and fields that have the name already which a definition gets.
 APART = {
@@ -54,7 +51,7 @@ def declared(root):
         into = specs if "/specs/" in path else proofs
         for line in read(path).split("\n"):
             m = SIGNATURE.match(re.sub(r"--.*", "", line))
-            if m and m[2] not in WORDS:
+            if m and m[2] not in WORDS and ": goal." not in line:
                 into.add(m[2])
     return specs, proofs - specs
 
@@ -113,15 +110,7 @@ def table(root):
     specs, proofs = declared(root)
     skip = of_library(root)
     is_low = lambda n: re.match(r"[a-z]", n) and (re.search(r"[a-z0-9][A-Z]", n) or "-" in n)  # noqa: E731
-    names = {snake(n) for n in specs if re.match(r"[a-z]", n)} | LIBRARY
-
-    def turned(name):
-        out, parts = "", snake(name).split("-")
-        for i, part in enumerate(parts):
-            out += part
-            if i + 1 < len(parts):
-                out += "-" if all(p in names for p in parts) else "_"
-        return out
+    turned = lambda n: snake(n).replace("-", "_")  # noqa: E731
 
     # Two names may fall together where no file has both; where one has, the later one, a lemma, gets _lem.
     near = {}

@@ -9,9 +9,9 @@ use lib.ListN.{length, get_or, take, drop, set, replicate, length-append, length
 use lib.Seq.{sets, sets-eq, take_all, take-append_seam, drop-append_seam}
 use Rattle.base.specs.Places.{placed}
 
-pub sets-append : (l : List ℕ) (i : ℕ) (xs ys : List ℕ) → sets l i (xs ++ ys) ≡ sets (sets l i xs) (i + length xs) ys
-sets-append l i [] ys = rw add-zero
-sets-append l i (x ∷ xs) ys = rw (add-suc, ← suc-add) (sets-append (set l i x) (suc i) xs ys)
+pub sets_append : (l : List ℕ) (i : ℕ) (xs ys : List ℕ) → sets l i (xs ++ ys) ≡ sets (sets l i xs) (i + length xs) ys
+sets_append l i [] ys = rw add-zero
+sets_append l i (x ∷ xs) ys = rw (add-suc, ← suc-add) (sets_append (set l i x) (suc i) xs ys)
 
 -- all that is left behind some first places
 pub take_rest : (k : ℕ) (l : List ℕ) → take (length l - k) (drop k l) ≡ drop k l
@@ -27,28 +27,28 @@ get_d_all (suc n) zero v = refl
 get_d_all (suc n) (suc i) v = get_d_all n i v
 
 module _ (new old : List ℕ) where
-  pub sets-placed : length new ≤ length old → sets old 0 new ≡ placed new old
+  pub sets_placed : length new ≤ length old → sets old 0 new ≡ placed new old
   unfolding placed
-  sets-placed h = sets-eq new old 0 (omega arith) ∙ rw zero-add
+  sets_placed h = sets-eq new old 0 (omega arith) ∙ rw zero-add
 
-  pub length-placed : length new ≤ length old → length (placed new old) ≡ length old
+  pub length_placed : length new ≤ length old → length (placed new old) ≡ length old
   unfolding placed
-  length-placed h = simp (length-append, length-drop) (omega arith)
+  length_placed h = simp (length-append, length-drop) (omega arith)
 
-  pub take-placed : take (length new) (placed new old) ≡ new
+  pub take_placed : take (length new) (placed new old) ≡ new
   unfolding placed
-  take-placed = take-append_seam new (drop (length new) old)
+  take_placed = take-append_seam new (drop (length new) old)
 
-  pub drop-placed : drop (length new) (placed new old) ≡ drop (length new) old
+  pub drop_placed : drop (length new) (placed new old) ≡ drop (length new) old
   unfolding placed
-  drop-placed = drop-append_seam new (drop (length new) old)
+  drop_placed = drop-append_seam new (drop (length new) old)
 
-  pub take-sets : length new ≤ length old → take (length new) (sets old 0 new) ≡ new
-  take-sets h = rw (sets-placed h) take-placed
+  pub take_sets : length new ≤ length old → take (length new) (sets old 0 new) ≡ new
+  take_sets h = rw (sets_placed h) take_placed
 
 -- new values in all places of a list
-pub sets-all : (new old : List ℕ) → length new ≡ length old → sets old 0 new ≡ new
+pub sets_all : (new old : List ℕ) → length new ≡ length old → sets old 0 new ≡ new
 unfolding placed
-sets-all new old e =
+sets_all new old e =
     let h : length old ≤ length new = omega arith in
-    sets-placed new old (omega arith) ∙ rw (drop_of_length-le old h) (append-nil new)
+    sets_placed new old (omega arith) ∙ rw (drop_of_length-le old h) (append-nil new)

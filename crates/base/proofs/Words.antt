@@ -33,10 +33,10 @@ unfolding words_of bytes_of
 words_bytes [] = refl
 words_bytes (n ∷ ns) = rw (word_bytes n, words_bytes ns)
 
-pub length-bytes : (ns : List ℕ) → length (bytes_of ns) ≡ 2 * length ns
+pub length_bytes : (ns : List ℕ) → length (bytes_of ns) ≡ 2 * length ns
 unfolding bytes_of
-length-bytes [] = refl
-length-bytes (n ∷ ns) = omega (arith, length-bytes ns)
+length_bytes [] = refl
+length_bytes (n ∷ ns) = omega (arith, length_bytes ns)
 
 pub length_words : (n : ℕ) (bytes : List ℕ) → length bytes ≡ 2 * n → length (words_of bytes) ≡ n
 unfolding words_of

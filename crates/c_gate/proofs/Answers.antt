@@ -17,38 +17,38 @@ use Rattle.c_answer.specs.Answer.{done, refused, Written}
 use Rattle.c_gate.specs.Answers.{answer_at, written_of, write_answer_call, kind_of, number_in, answer_told, read_answer_call}
 
 -- a position is narrowed without loss
-pub position-fits : (z : ℤ) → is_position z ≡ true → SFits w8 z
+pub position_fits : (z : ℤ) → is_position z ≡ true → SFits w8 z
 unfolding is_position
-position-fits (pos n) h = record { sfits = omega (arith, leb-true n 100 h) }
-position-fits (negsuc zero) h = record { sfits = omega arith }
-position-fits (negsuc (suc n)) h = absurd (false≢true h)
+position_fits (pos n) h = record { sfits = omega (arith, leb-true n 100 h) }
+position_fits (negsuc zero) h = record { sfits = omega arith }
+position_fits (negsuc (suc n)) h = absurd (false≢true h)
 
 module _ (z : ℤ) where
-  pub position-refused : is_position z ≡ false → refuses 10 ≡ position_at z
+  pub position_refused : is_position z ≡ false → refuses 10 ≡ position_at z
   unfolding position_at
-  position-refused h = rw h
+  position_refused h = rw h
 
-  pub position-taken : {y : ℤ} → y ≡ z → is_position z ≡ true → reads (Position y) ≡ position_at z
+  pub position_taken : {y : ℤ} → y ≡ z → is_position z ≡ true → reads (Position y) ≡ position_at z
   unfolding position_at
-  position-taken is h = rw (is, h)
+  position_taken is h = rw (is, h)
 
 -- the answer by the kind
 module _ (k : ℕ) (z : ℤ) where
-  pub at-ack : k ≡ ack → reads Ack ≡ answer_at k z
+  pub at_ack : k ≡ ack → reads Ack ≡ answer_at k z
   unfolding answer_at
-  at-ack e = rw e
+  at_ack e = rw e
 
-  pub at-nak : k ≡ nak → reads Nak ≡ answer_at k z
+  pub at_nak : k ≡ nak → reads Nak ≡ answer_at k z
   unfolding answer_at
-  at-nak e = rw e
+  at_nak e = rw e
 
-  pub at-busy : k ≡ busy → reads Busy ≡ answer_at k z
+  pub at_busy : k ≡ busy → reads Busy ≡ answer_at k z
   unfolding answer_at
-  at-busy e = rw e
+  at_busy e = rw e
 
-  pub at-syn : k ≡ syn → reads Syn ≡ answer_at k z
+  pub at_syn : k ≡ syn → reads Syn ≡ answer_at k z
   unfolding answer_at
-  at-syn e = rw e
+  at_syn e = rw e
 
   pub at_count : {y : ℤ} → y ≡ z → k ≡ count → reads (Count y) ≡ answer_at k z
   unfolding answer_at
@@ -69,10 +69,10 @@ module _ (k : ℕ) (z : ℤ) where
   writes out is told = told ∙ ap (λ (r : Reading). written_of r out) is
 
 -- one place is filled by what is stored
-one-stored : (l : List ℤ) (z : ℤ) → length l ≡ 1 → set l 0 z ≡ z ∷ []
-one-stored [] z e = absurd (omega arith)
-one-stored (x ∷ []) z e = refl
-one-stored (x ∷ y ∷ l) z e = absurd (omega arith)
+one_stored : (l : List ℤ) (z : ℤ) → length l ≡ 1 → set l 0 z ≡ z ∷ []
+one_stored [] z e = absurd (omega arith)
+one_stored (x ∷ []) z e = refl
+one_stored (x ∷ y ∷ l) z e = absurd (omega arith)
 
 -- what is told, by the places and by what is read
 module _ (bs : List ℕ) (number : List ℤ) where
@@ -84,8 +84,8 @@ module _ (bs : List ℕ) (number : List ℤ) where
     pub tells : {a : BarrierAnswer} {n : ℕ} {z : ℤ} → reads a ≡ answer_reading bs → n ≡ done (kind_of a) → z ≡ number_in a →
         answer_told n (set number 0 z) ≡ read_answer_call bs number
     unfolding read_answer_call
-    tells {a} {n} {z} is kind value = rw (eq-eqb (length number) 1 h, ← is, kind, one-stored number z h, value)
+    tells {a} {n} {z} is kind value = rw (eq-eqb (length number) 1 h, ← is, kind, one_stored number z h, value)
 
-    pub tells-refusal : {k n : ℕ} → refuses k ≡ answer_reading bs → n ≡ refused k → answer_told n number ≡ read_answer_call bs number
+    pub tells_refusal : {k n : ℕ} → refuses k ≡ answer_reading bs → n ≡ refused k → answer_told n number ≡ read_answer_call bs number
     unfolding read_answer_call
-    tells-refusal is value = rw (eq-eqb (length number) 1 h, ← is, value)
+    tells_refusal is value = rw (eq-eqb (length number) 1 h, ← is, value)

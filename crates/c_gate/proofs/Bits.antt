@@ -19,10 +19,10 @@ unfolding bits_at
 length_bits [] = refl
 length_bits (n ∷ l) = ap suc (length_bits l)
 
-pub length-numbers : (l : List Bool) → length (bit_numbers l) ≡ length l
+pub length_numbers : (l : List Bool) → length (bit_numbers l) ≡ length l
 unfolding bit_numbers
-length-numbers [] = refl
-length-numbers (b ∷ l) = ap suc (length-numbers l)
+length_numbers [] = refl
+length_numbers (b ∷ l) = ap suc (length_numbers l)
 
 pub bit_at : (l : List ℕ) (i : ℕ) → eqb (get_or l i 0) 1 ≡ get_or (bits_at l) i false
 unfolding bits_at

@@ -16,7 +16,7 @@ use Rattle.gate_refusal.specs.Numbers.{number_of}
 use Rattle.gate_refusal.specs.declared.GateRefusal.{GateRefusal}
 use Rattle.gate_refusal.specs.declared.GateRefusal.TheVariants.{Setup, Kind, Length, Position, OutputShort, Check, Address}
 use Rattle.gate_telegram.specs.Telegram.{start_byte, reserved, max_data, slave_token, telegram_of, bad_addresses, telegram_writing}
-use Rattle.gate_telegram.proofs.Telegrams.{length-telegram}
+use Rattle.gate_telegram.proofs.Telegrams.{length_telegram}
 use Rattle.gate_receive.specs.Receive.{Response, nothing, telegram, token, refuses, Reaction, Storing, Judging, Outcome, to, starting_again, with, rest_of, destination_of, source_of, length_of, data_of, accepted_of, judged_of, others_length_of, dropping_of, byte_of, event_of, overcounts, receive_of}
 use Rattle.gate_receive.specs.declared.GateState.{GateState}
 use Rattle.gate_receive.specs.declared.GateState.TheVariants.{Rest, AtDestination, AtSource, AtLength, AtData, AtLowCheck, OthersSource, OthersLength, Dropping}
@@ -35,7 +35,7 @@ use Rattle.gate_answers.specs.declared.BarrierAnswer.TheVariants as barrier
 use Rattle.c_gate.specs.Bus.{fits, state_of, state_at}
 use Rattle.c_gate.specs.Answers.{kind_of}
 use Rattle.c_gate.specs.Bounds.{max_telegram, GateBounds}
-use Rattle.c_gate.proofs.States.{fits-parts}
+use Rattle.c_gate.proofs.States.{fits_parts}
 
 number_bound : (r : GateRefusal) → (1 ≤ number_of r) × (number_of r < 255)
 number_bound Setup = (omega arith, omega arith)
@@ -61,7 +61,7 @@ fitted_within most bytes out h = pick_either (WithinOut most) (ltb (length out) 
 module _ (d s : ℕ) (bs out : List ℕ) where
   by_length : (t : Bool) → ltb max_data (length bs) ≡ t → WithinOut max_telegram (pick t (denied 7 out) (fitted (telegram_of d s bs) out))
   by_length true e = tt
-  by_length false e = fitted_within max_telegram (telegram_of d s bs) out (omega (arith, length-telegram d s bs, ltb-false max_data (length bs) e))
+  by_length false e = fitted_within max_telegram (telegram_of d s bs) out (omega (arith, length_telegram d s bs, ltb-false max_data (length bs) e))
 
   telegram_within : WithinOut max_telegram (telegram_writing d s bs out)
   unfolding telegram_writing
@@ -71,18 +71,18 @@ command_within : (c f : ℕ) (out : List ℕ) → WithinOut 3 (command_writing c
 unfolding command_writing
 command_within c f out = fitted_within 3 (command_of c f) out (omega arith)
 
-answer-size : (a : BarrierAnswer) → length (answer_bytes a) ≤ 5
+answer_size : (a : BarrierAnswer) → length (answer_bytes a) ≤ 5
 unfolding answer_bytes four_bytes
-answer-size Ack = omega arith
-answer-size Nak = omega arith
-answer-size Busy = omega arith
-answer-size Syn = omega arith
-answer-size (Count z) = omega arith
-answer-size (barrier.Position z) = omega arith
+answer_size Ack = omega arith
+answer_size Nak = omega arith
+answer_size Busy = omega arith
+answer_size Syn = omega arith
+answer_size (Count z) = omega arith
+answer_size (barrier.Position z) = omega arith
 
 answer_within : (a : BarrierAnswer) (out : List ℕ) → WithinOut 5 (answer_writing a out)
 unfolding answer_writing
-answer_within a out = pick_either (WithinOut 5) (is_answer a) (fitted_within 5 (answer_bytes a) out (answer-size a)) tt
+answer_within a out = pick_either (WithinOut 5) (is_answer a) (fitted_within 5 (answer_bytes a) out (answer_size a)) tt
 
 -- what a command is answered by
 abbrev Answered : Verdict → Type 0
@@ -92,9 +92,9 @@ Answered (commands.refuses k) = Unit
 abbrev AnsweredSo : Operation → Type 0
 AnsweredSo o = Answered o.verdict
 
-operating-answered : (r : GateRegisters) (bs : List ℕ) → AnsweredSo (operating r bs)
+operating_answered : (r : GateRegisters) (bs : List ℕ) → AnsweredSo (operating r bs)
 unfolding operating commanding function_of functioning
-operating-answered r bs =
+operating_answered r bs =
     let c = get_or bs 1 0 in
     let f = get_or bs 2 0 in
     pick_either AnsweredSo (not (eqb (length bs) 3)) tt
@@ -132,9 +132,9 @@ SmallSource OthersSource = Unit
 SmallSource OthersLength = Unit
 SmallSource (Dropping left) = Unit
 
-state-source : (w : List ℕ) → get_or w 2 0 ≤ 255 → SmallSource (state_at w)
+state_source : (w : List ℕ) → get_or w 2 0 ≤ 255 → SmallSource (state_at w)
 unfolding state_at state_of
-state-source w h =
+state_source w h =
     let p = get_or w 0 0 in
     pick_either SmallSource (eqb p 0) tt
     (pick_either SmallSource (eqb p 1) tt
@@ -193,17 +193,17 @@ module _ (own : ℕ) (s : GateState) (st : List ℕ) (e : GateEvent) (out : List
 
 -- at numbers that fit
 fitting_small : (own : ℕ) (w st : List ℕ) (e : GateEvent) (out : List ℕ) → fits w ≡ true → SmallOutcome (receive_of own (state_at w) st e out)
-fitting_small own w st e out h = receive_small own (state_at w) st e out (state-source w (fits-parts w h).source)
+fitting_small own w st e out h = receive_small own (state_at w) st e out (state_source w (fits_parts w h).source)
 
 pub gate_bounds : GateBounds
 gate_bounds = record {
   from_done = λ r value small. above_values (number_of r) value (number_bound r).0 small;
   from_not_mine = λ r. below_not_mine (number_of r) (number_bound r).1;
-  telegram-long = λ d s bs out n e. subst (Within max_telegram) e (telegram_within d s bs out);
+  telegram_long = λ d s bs out n e. subst (Within max_telegram) e (telegram_within d s bs out);
   command_long = λ c f out n e. subst (Within 3) e (command_within c f out);
-  answer-long = λ a out n e. subst (Within 5) e (answer_within a out);
+  answer_long = λ a out n e. subst (Within 5) e (answer_within a out);
   received = λ own w st e out from n h is. subst Small is (fitting_small own w st e out h);
   passed_on = λ own w st e out from h is. subst Small is (fitting_small own w st e out h);
-  verdict = λ r bs b is. subst Answered is (operating-answered r bs);
+  verdict = λ r bs b is. subst Answered is (operating_answered r bs);
   kind = kind_bound;
 }

@@ -12,5 +12,5 @@ module _ {A : Type 0} (l new : List A) where
       take (i + 1) (set l i a) ≡ take (i + 1) new
   front_grows i d {a} is h k front = rw (add-one i, take-suc-set l i a h, take-suc new i d k, front, is)
 
-  pub front-whole : (i : ℕ) → length l ≤ i → length new ≤ i → take i l ≡ take i new → l ≡ new
-  front-whole i h k front = sym (take_all i l h) ∙ front ∙ take_all i new k
+  pub front_whole : (i : ℕ) → length l ≤ i → length new ≤ i → take i l ≡ take i new → l ≡ new
+  front_whole i h k front = sym (take_all i l h) ∙ front ∙ take_all i new k

@@ -41,9 +41,9 @@ both : (s t : Bool) → (s && t) ≡ true → (s ≡ true) × (t ≡ true)
 both s t = (and-eq-true_iff s t).0
 
 module _ (w : List ℕ) where
-  pub fits-parts : fits w ≡ true → Fitting w
+  pub fits_parts : fits w ≡ true → Fitting w
   unfolding fits
-  fits-parts g =
+  fits_parts g =
       let a = eqb (length w) 7 in
       let b = leb (get_or w 1 0) 255 in
       let c = leb (get_or w 2 0) 255 in
@@ -112,9 +112,9 @@ same_stop : (x y : ℕ) (a b : List ℕ) → (x ≡ y → ⊥) → same (x ∷ a
 unfolding same
 same_stop x y a b e = rw (ne_eqb x y e)
 
-same-nil : same [] [] ≡ true
+same_nil : same [] [] ≡ true
 unfolding same
-same-nil = refl
+same_nil = refl
 
 -- from a place on
 abbrev pub same_from : ℕ → List ℕ → List ℕ → Bool
@@ -128,7 +128,7 @@ module _ (i : ℕ) (a b : List ℕ) (h : i < length a) (k : i < length b) where
   same_not e = rw (drop-cons a i 0 h, drop-cons b i 0 k) (same_stop (get_or a i 0) (get_or b i 0) _ _ e)
 
 pub same_end : (i : ℕ) (a b : List ℕ) → length a ≤ i → length b ≤ i → same_from i a b ≡ true
-same_end i a b h k = rw (drop_of_length-le a h, drop_of_length-le b k) same-nil
+same_end i a b h k = rw (drop_of_length-le a h, drop_of_length-le b k) same_nil
 
 -- the two tests of a state
 module _ (w : List ℕ) where
@@ -140,21 +140,21 @@ module _ (w : List ℕ) where
   unfolding is_state
   state_compared h is numbers = rw (numbers, is, h)
 
-  pub state-parts : is_state w ≡ true → (fits w ≡ true) × (same w (state_words (state_at w)) ≡ true)
+  pub state_parts : is_state w ≡ true → (fits w ≡ true) × (same w (state_words (state_at w)) ≡ true)
   unfolding is_state
-  state-parts g = both (fits w) (same w (state_words (state_at w))) g
+  state_parts g = both (fits w) (same w (state_words (state_at w))) g
 
 -- the call, by event and state
 module _ (own : ℕ) (w st : List ℕ) (event : ℕ) (out : List ℕ) where
-  pub no-event : timer < event → receive_call own w st event out ≡ received (refused 1) w st out
+  pub no_event : timer < event → receive_call own w st event out ≡ received (refused 1) w st out
   unfolding receive_call
-  no-event h = rw (lt-leb event timer h)
+  no_event h = rw (lt-leb event timer h)
 
-  pub no-state : is_state w ≡ false → receive_call own w st event out ≡ received (refused 1) w st out
+  pub no_state : is_state w ≡ false → receive_call own w st event out ≡ received (refused 1) w st out
   unfolding receive_call
-  no-state h = rw (h, and-false (leb event timer))
+  no_state h = rw (h, and-false (leb event timer))
 
-  pub at-state : event ≤ timer → is_state w ≡ true →
+  pub at_state : event ≤ timer → is_state w ≡ true →
       receive_call own w st event out ≡ received_by (receive_of own (state_at w) st (event_at event) out)
   unfolding receive_call
-  at-state h is = rw (le-leb event timer h, is)
+  at_state h is = rw (le-leb event timer h, is)

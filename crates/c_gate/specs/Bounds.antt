@@ -24,9 +24,9 @@ pub record GateBounds : Type 0 where
   pub from_done : (r : GateRefusal) (value : ℕ) → value < kinds → refused (number_of r) ≡ done value → ⊥
   pub from_not_mine : (r : GateRefusal) → refused (number_of r) ≡ not_mine → ⊥
   -- the lengths of what is written
-  pub telegram-long : (d s : ℕ) (bs out : List ℕ) (n : ℕ) → (telegram_writing d s bs out).given ≡ filled n → n ≤ max_telegram
+  pub telegram_long : (d s : ℕ) (bs out : List ℕ) (n : ℕ) → (telegram_writing d s bs out).given ≡ filled n → n ≤ max_telegram
   pub command_long : (c f : ℕ) (out : List ℕ) (n : ℕ) → (command_writing c f out).given ≡ filled n → n ≤ 3
-  pub answer-long : (a : BarrierAnswer) (out : List ℕ) (n : ℕ) → (answer_writing a out).given ≡ filled n → n ≤ 5
+  pub answer_long : (a : BarrierAnswer) (out : List ℕ) (n : ℕ) → (answer_writing a out).given ≡ filled n → n ≤ 5
   -- what comes of an event at numbers that fit: source and number of data bytes are bytes, so a telegram is told from a token
   pub received : (own : ℕ) (w st : List ℕ) (e : GateEvent) (out : List ℕ) (from n : ℕ) → fits w ≡ true →
       (receive_of own (state_at w) st e out).reaction.response ≡ telegram from n → (from ≤ 255) × (n ≤ max_data)

@@ -13,7 +13,7 @@ use Rattle.base.specs.Filling.{Given, filled, refused, Filling, denied, fitted}
 use Rattle.base.proofs.Choice.{pick_either}
 use Rattle.link_frame.specs.Frame.{frame_of, framing, max_data}
 use Rattle.link_frame.proofs.Doubling.{doubled_bound}
-use Rattle.link_frame.proofs.Framing.{length-frame}
+use Rattle.link_frame.proofs.Framing.{length_frame}
 use Rattle.c_link.specs.Bounds.{max_frame, LinkBounds}
 use Rattle.c_link.specs.Private.Small.{SmallResponse}
 use Rattle.c_link.proofs.Messages.{response_small}
@@ -31,7 +31,7 @@ frame_within : (d out : List ℕ) (t : Bool) → ltb max_data (length d) ≡ t �
     Within max_frame (pick t (denied 12 out) (fitted (frame_of d) out)).given
 frame_within d out true e = tt
 frame_within d out false e =
-    fitted_within max_frame (frame_of d) out (omega (arith, length-frame d, doubled_bound d, ltb-false max_data (length d) e))
+    fitted_within max_frame (frame_of d) out (omega (arith, length_frame d, doubled_bound d, ltb-false max_data (length d) e))
 
 frame_bound : (d out : List ℕ) → Within max_frame (framing d out).given
 unfolding framing

@@ -19,47 +19,47 @@ pub record State (words : List ℕ) : Type 0 where
   pub phase : get_or words 0 0 ≤ 3
   pub check : get_or words 2 0 ≤ 255
 
-pub state-parts : (words : List ℕ) → is_state words ≡ true → State words
+pub state_parts : (words : List ℕ) → is_state words ≡ true → State words
 unfolding is_state
-state-parts words g =
+state_parts words g =
     let p = (and-eq-true_iff (eqb (length words) 3 && leb (get_or words 0 0) 3) (leb (get_or words 2 0) 255)).0 g in
     let q = (and-eq-true_iff (eqb (length words) 3) (leb (get_or words 0 0) 3)).0 p.0 in
     record { three = eqb-true (length words) 3 q.0; phase = leb-true (get_or words 0 0) 3 q.1; check = leb-true (get_or words 2 0) 255 p.1 }
 
 -- the call, by these tests
 module _ (words : List ℕ) (event : ℕ) (buf : List ℕ) where
-  pub no-event : 256 < event → receive_call words event buf ≡ received (refused 1) words buf
+  pub no_event : 256 < event → receive_call words event buf ≡ received (refused 1) words buf
   unfolding receive_call is_event
-  no-event h = rw (lt-leb event 256 h)
+  no_event h = rw (lt-leb event 256 h)
 
-  no-state : is_state words ≡ false → receive_call words event buf ≡ received (refused 1) words buf
+  no_state : is_state words ≡ false → receive_call words event buf ≡ received (refused 1) words buf
   unfolding receive_call
-  no-state h = rw (h, and-false (is_event event))
+  no_state h = rw (h, and-false (is_event event))
 
   pub not_three : (length words ≡ 3 → ⊥) → receive_call words event buf ≡ received (refused 1) words buf
   unfolding is_state
-  not_three h = no-state (rw (ne_eqb (length words) 3 h))
+  not_three h = no_state (rw (ne_eqb (length words) 3 h))
 
   pub bad_phase : 3 < get_or words 0 0 → receive_call words event buf ≡ received (refused 1) words buf
   unfolding is_state
-  bad_phase h = no-state (rw (lt-leb (get_or words 0 0) 3 h, and-false (eqb (length words) 3)))
+  bad_phase h = no_state (rw (lt-leb (get_or words 0 0) 3 h, and-false (eqb (length words) 3)))
 
   pub bad_check : 255 < get_or words 2 0 → receive_call words event buf ≡ received (refused 1) words buf
   unfolding is_state
-  bad_check h = no-state (rw (lt-leb (get_or words 2 0) 255 h, and-false (eqb (length words) 3 && leb (get_or words 0 0) 3)))
+  bad_check h = no_state (rw (lt-leb (get_or words 2 0) 255 h, and-false (eqb (length words) 3 && leb (get_or words 0 0) 3)))
 
   -- a state against its buffer
-  refused-against : against (get_or words 1 0) buf ≡ true → receive_call words event buf ≡ received (refused 1) words buf
+  refused_against : against (get_or words 1 0) buf ≡ true → receive_call words event buf ≡ received (refused 1) words buf
   unfolding receive_call
-  refused-against h = rw (h, and-false (is_event event && is_state words))
+  refused_against h = rw (h, and-false (is_event event && is_state words))
 
-  pub over-buffer : length buf < get_or words 1 0 → receive_call words event buf ≡ received (refused 1) words buf
+  pub over_buffer : length buf < get_or words 1 0 → receive_call words event buf ≡ received (refused 1) words buf
   unfolding against
-  over-buffer h = refused-against (rw (lt-ltb (length buf) (get_or words 1 0) h))
+  over_buffer h = refused_against (rw (lt-ltb (length buf) (get_or words 1 0) h))
 
   pub over_limit : max_data < get_or words 1 0 → receive_call words event buf ≡ received (refused 1) words buf
   unfolding against
-  over_limit h = refused-against (rw (lt-ltb max_data (get_or words 1 0) h, or-true (ltb (length buf) (get_or words 1 0))))
+  over_limit h = refused_against (rw (lt-ltb max_data (get_or words 1 0) h, or-true (ltb (length buf) (get_or words 1 0))))
 
 pub is_state_lem : (words : List ℕ) → length words ≡ 3 → get_or words 0 0 ≤ 3 → get_or words 2 0 ≤ 255 → is_state words ≡ true
 unfolding is_state
@@ -84,18 +84,18 @@ words_back (a ∷ b ∷ c ∷ d ∷ l) e h = absurd (omega arith)
 
 -- so a state against its buffer stays as it was
 module _ (words : List ℕ) (event : ℕ) (buf : List ℕ) (some : event ≤ 256) (is : is_state words ≡ true) where
-  is-event : is_event event ≡ true
+  is_event_lem : is_event event ≡ true
   unfolding is_event
-  is-event = le-leb event 256 some
+  is_event_lem = le-leb event 256 some
 
   same_words : state_words (state_at words) ≡ words
-  same_words = let s = state-parts words is in words_back words s.three s.phase
+  same_words = let s = state_parts words is in words_back words s.three s.phase
 
   by_count : (t : Bool) → against (get_or words 1 0) buf ≡ t →
       receive_call words event buf ≡ received_by (receive_of (state_at words) (event_at event) buf)
   unfolding receive_call receive_of
-  by_count true e = rw (is-event, is, e) (ap (λ (l : List ℕ). received (refused 1) l buf) (sym same_words))
-  by_count false e = rw (is-event, is, e)
+  by_count true e = rw (is_event_lem, is, e) (ap (λ (l : List ℕ). received (refused 1) l buf) (sym same_words))
+  by_count false e = rw (is_event_lem, is, e)
 
-  pub at-state : receive_call words event buf ≡ received_by (receive_of (state_at words) (event_at event) buf)
-  at-state = by_count (against (get_or words 1 0) buf) refl
+  pub at_state : receive_call words event buf ≡ received_by (receive_of (state_at words) (event_at event) buf)
+  at_state = by_count (against (get_or words 1 0) buf) refl

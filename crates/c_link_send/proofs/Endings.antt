@@ -12,7 +12,7 @@ use Rattle.base.proofs.Choice.{pick_either, pick_by}
 use Rattle.link_frame.specs.ControlBytes.{STX, DLE}
 use Rattle.link_frame.specs.Frame.{frame_of, max_data}
 use Rattle.link_frame.proofs.Doubling.{doubled_bound}
-use Rattle.link_frame.proofs.Framing.{length-frame}
+use Rattle.link_frame.proofs.Framing.{length_frame}
 use Rattle.link_receive.specs.Receive as half
 use Rattle.link_receive.specs.Receive.{Response, Reaction, receive_of}
 use Rattle.link_receive.specs.declared.LinkEvent.{LinkEvent}
@@ -57,7 +57,7 @@ module _ (d : List ℕ) where
 
   block_small : (s : Sender) → length d ≤ max_data → Small d (sending (block ∷ []) s)
   unfolding bytes_of part_bytes
-  block_small s most = (rw (append-nil (frame_of d)) (omega (arith, length-frame d, doubled_bound d)), λ n h. h)
+  block_small s most = (rw (append-nil (frame_of d)) (omega (arith, length_frame d, doubled_bound d)), λ n h. h)
 
   connection_small : (s : Sender) → Small d (connection_fails s)
   unfolding connection_fails
@@ -140,9 +140,9 @@ module _ (s : Sender) (buf out : List ℕ) where
   abbrev Ends : Sending → Type 0
   Ends x = Ending s buf out x.outcome
 
-  turn-ends : (d : List ℕ) (t : Taken) → Small d t.turn → Ends (outgoing (fitted (bytes_of d t.turn.parts) out) t s buf)
+  turn_ends : (d : List ℕ) (t : Taken) → Small d t.turn → Ends (outgoing (fitted (bytes_of d t.turn.parts) out) t s buf)
   unfolding fitted
-  turn-ends d t small =
+  turn_ends d t small =
       pick_either (λ (f : Filling). Ends (outgoing f t s buf)) (ltb (length out) (length (bytes_of d t.turn.parts)))
       (denied 11)
       (told _ _ _ (small.1 _ small.0))
@@ -152,7 +152,7 @@ module _ (s : Sender) (buf out : List ℕ) where
   send_ends e d =
       pick_either Ends (misset s buf) (denied 1)
       (pick_by Ends (ltb max_data (length d)) (λ long. denied 12)
-      (λ short. turn-ends d (turn_of s e buf) (turn_small d (ltb-false max_data (length d) short) s buf e)))
+      (λ short. turn_ends d (turn_of s e buf) (turn_small d (ltb-false max_data (length d) short) s buf e)))
 
 -- so the number of an answer fits
 told_small : (r : SendResponse) → Told r → SmallResponse r
@@ -175,15 +175,15 @@ message_small n count small is = subst (λ (x : SendAnswer). SmallResponse (resp
 pub value_bound : (n count : ℕ) → n ≤ max_frame → count ≤ max_data → of_response (delivers n count) < kinds
 value_bound n count h m = omega arith
 
-told-done : (r : SendResponse) (k : ℕ) → Told r → 1 ≤ k → of_response r ≡ refused k → ⊥
-told-done (sends n) k h some e = omega arith
-told-done (delivers n count) k h some e = omega (arith, h.0, h.1)
-told-done (refuses j) k h some e = h
+told_done : (r : SendResponse) (k : ℕ) → Told r → 1 ≤ k → of_response r ≡ refused k → ⊥
+told_done (sends n) k h some e = omega arith
+told_done (delivers n count) k h some e = omega (arith, h.0, h.1)
+told_done (refuses j) k h some e = h
 
-same-refusal : (j k : ℕ) → refused j ≡ refused k → j ≡ k
-same-refusal j k e = omega arith
+same_refusal : (j k : ℕ) → refused j ≡ refused k → j ≡ k
+same_refusal j k e = omega arith
 
-pub ending-kept : {s : Sender} {buf out : List ℕ} {o : SendOutcome} (k : ℕ) → Ending s buf out o → 1 ≤ k →
+pub ending_kept : {s : Sender} {buf out : List ℕ} {o : SendOutcome} (k : ℕ) → Ending s buf out o → 1 ≤ k →
     of_response o.reaction.response ≡ refused k → o ≡ leaving (refusing k s) buf out
-ending-kept k (told r b o h) some e = absurd (told-done r.response k h some e)
-ending-kept {s} {buf} {out} k (denied j) some e = ap (λ (n : ℕ). leaving (refusing n s) buf out) (same-refusal j k e)
+ending_kept k (told r b o h) some e = absurd (told_done r.response k h some e)
+ending_kept {s} {buf} {out} k (denied j) some e = ap (λ (n : ℕ). leaving (refusing n s) buf out) (same_refusal j k e)

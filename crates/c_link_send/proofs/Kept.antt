@@ -19,11 +19,11 @@ use Rattle.link_send.specs.declared.SendPhase.TheVariants.{Fresh, Opening, Await
 use Rattle.link_send.specs.declared.Sender.{Sender}
 use Rattle.c_answer.specs.Answer.{refused}
 use Rattle.c_link.specs.Link.{dle_at, phase_number, phase_at, state_words, state_at}
-use Rattle.c_link.proofs.States.{state-parts, is_state_lem, words_back}
+use Rattle.c_link.proofs.States.{state_parts, is_state_lem, words_back}
 use Rattle.c_link_send.specs.Send.{priority_number, priority_at, send_phase_number, send_phase_at, half_in, sender_words, sender_at, is_half, is_sender, is_event, event_at, AtSender, at_sender, at_sender_by, send_call}
 use Rattle.c_link_send.specs.Kept.{StateTaken, SendKept}
-use Rattle.c_link_send.proofs.States.{Nine, nine, is_nine, both, IsSender, sender-parts}
-use Rattle.c_link_send.proofs.Endings.{send_ends, ending-kept}
+use Rattle.c_link_send.proofs.States.{Nine, nine, is_nine, both, IsSender, sender_parts}
+use Rattle.c_link_send.proofs.Endings.{send_ends, ending_kept}
 
 -- numbers that were read are written as they were
 priority_back : (n : ℕ) → n ≤ 1 → priority_number (priority_at n) ≡ n
@@ -54,14 +54,14 @@ unfolding send_phase_at is_half
 half_back zero p n k most g = zeros p n k g
 half_back (suc zero) p n k most g = zeros p n k g
 half_back (suc (suc zero)) p n k most g = zeros p n k g
-half_back (suc (suc (suc zero))) p n k most g = words_back (p ∷ n ∷ k ∷ []) refl (state-parts (p ∷ n ∷ k ∷ []) g).phase
+half_back (suc (suc (suc zero))) p n k most g = words_back (p ∷ n ∷ k ∷ []) refl (state_parts (p ∷ n ∷ k ∷ []) g).phase
 half_back (suc (suc (suc (suc zero)))) p n k most g = zeros p n k g
 half_back (suc (suc (suc (suc (suc zero))))) p n k most g = zeros p n k g
 half_back (suc (suc (suc (suc (suc (suc s)))))) p n k most g = absurd (omega arith)
 
-numbers-back : {w : List ℕ} → Nine w → IsSender w → sender_words (sender_at w) ≡ w
+numbers_back : {w : List ℕ} → Nine w → IsSender w → sender_words (sender_at w) ≡ w
 unfolding sender_at
-numbers-back (nine a b c d e f p n k) is =
+numbers_back (nine a b c d e f p n k) is =
     rw (phase_back a (state_at (p ∷ n ∷ k ∷ [])) is.phase, priority_back d is.priority, half_back a p n k is.phase is.half)
 
 -- a sender that was written is read as it was
@@ -109,30 +109,30 @@ priority_most : (p : Priority) → leb (priority_number p) 1 ≡ true
 priority_most Low = refl
 priority_most High = refl
 
-half-taken : (p : SendPhase) → (half_in p).check ≤ 255 → is_half (send_phase_number p) (state_words (half_in p)) ≡ true
+half_taken : (p : SendPhase) → (half_in p).check ≤ 255 → is_half (send_phase_number p) (state_words (half_in p)) ≡ true
 unfolding is_half
-half-taken Fresh h = refl
-half-taken Opening h = refl
-half-taken Awaiting h = refl
-half-taken (Receiving s) h = is_state_lem (state_words s) refl (half_phase_most s.phase) h
-half-taken Sent h = refl
-half-taken GaveUp h = refl
+half_taken Fresh h = refl
+half_taken Opening h = refl
+half_taken Awaiting h = refl
+half_taken (Receiving s) h = is_state_lem (state_words s) refl (half_phase_most s.phase) h
+half_taken Sent h = refl
+half_taken GaveUp h = refl
 
-sender-taken : (s : Sender) → (half_in s.phase).check ≤ 255 → is_sender (sender_words s) ≡ true
+sender_taken : (s : Sender) → (half_in s.phase).check ≤ 255 → is_sender (sender_words s) ≡ true
 unfolding is_sender
-sender-taken s h = rw (phase_most s.phase, priority_most s.priority, half-taken s.phase h)
+sender_taken s h = rw (phase_most s.phase, priority_most s.priority, half_taken s.phase h)
 
-pub state-taken : StateTaken
-state-taken = record {
-  numbers = λ w is. let s = sender-parts w is in numbers-back (is_nine w s.nine_long) s;
+pub state_taken : StateTaken
+state_taken = record {
+  numbers = λ w is. let s = sender_parts w is in numbers_back (is_nine w s.nine_long) s;
   sender = sender_there;
-  taken = sender-taken;
+  taken = sender_taken;
 }
 
 pub send_kept : SendKept
 unfolding send_call
 send_kept w event d buf out k some =
     pick_by (λ (x : AtSender). x.answer ≡ refused k → x ≡ at_sender (refused k) w buf out) (is_event event && is_sender w)
-    (λ is e. ap at_sender_by (ending-kept k (send_ends (sender_at w) buf out (event_at event) d) some e)
-    ∙ ap (λ (l : List ℕ). at_sender (refused k) l buf out) (state-taken.numbers w (both (is_event event) (is_sender w) is).1))
+    (λ is e. ap at_sender_by (ending_kept k (send_ends (sender_at w) buf out (event_at event) d) some e)
+    ∙ ap (λ (l : List ℕ). at_sender (refused k) l buf out) (state_taken.numbers w (both (is_event event) (is_sender w) is).1))
     (λ no e. ap (λ (n : ℕ). at_sender n w buf out) e)

@@ -18,7 +18,7 @@ use Rattle.link_send.specs.declared.SendPhase.{SendPhase}
 use Rattle.link_send.specs.declared.Sender.{Sender}
 use Rattle.c_answer.specs.Answer.{refused}
 use Rattle.c_link.specs.Link.{phase_at, is_state}
-use Rattle.c_link.proofs.States.{state-parts}
+use Rattle.c_link.proofs.States.{state_parts}
 use Rattle.c_link_send.specs.Send.{priority_at, send_phase_at, sender_at, is_half, is_sender, start, is_event, event_at, at_sender, at_sender_by, send_call}
 
 -- nine numbers, one by one
@@ -74,18 +74,18 @@ module _ (s p n k : ℕ) where
     unfolding is_half
     junk_count e h = rw (ne_eqb s 3 other, eq-eqb p 0 e, ne_eqb n 0 h)
 
-    pub no-half : p ≡ 0 → n ≡ 0 → is_half s (p ∷ n ∷ k ∷ []) ≡ eqb k 0
+    pub no_half : p ≡ 0 → n ≡ 0 → is_half s (p ∷ n ∷ k ∷ []) ≡ eqb k 0
     unfolding is_half
-    no-half e h = rw (ne_eqb s 3 other, eq-eqb p 0 e, eq-eqb n 0 h)
+    no_half e h = rw (ne_eqb s 3 other, eq-eqb p 0 e, eq-eqb n 0 h)
 
-half-byte : (s : ℕ) (h : List ℕ) → is_half s h ≡ true → get_or h 2 0 ≤ 255
+half_byte : (s : ℕ) (h : List ℕ) → is_half s h ≡ true → get_or h 2 0 ≤ 255
 unfolding is_half
-half-byte s h =
+half_byte s h =
     let p = eqb (get_or h 0 0) 0 in
     let n = eqb (get_or h 1 0) 0 in
     let k = eqb (get_or h 2 0) 0 in
     pick_either (λ (t : Bool). t ≡ true → get_or h 2 0 ≤ 255) (eqb s 3)
-    (λ g. (state-parts h g).check)
+    (λ g. (state_parts h g).check)
     (λ g. omega (arith, eqb-true (get_or h 2 0) 0 (both (p && n) k g).1))
 
 -- what a sender is
@@ -96,9 +96,9 @@ pub record IsSender (w : List ℕ) : Type 0 where
   pub half : is_half (get_or w 0 0) (drop 6 w) ≡ true
 
 module _ (w : List ℕ) where
-  pub sender-parts : is_sender w ≡ true → IsSender w
+  pub sender_parts : is_sender w ≡ true → IsSender w
   unfolding is_sender
-  sender-parts g =
+  sender_parts g =
       let a = eqb (length w) 9 in
       let b = leb (get_or w 0 0) 5 in
       let c = leb (get_or w 3 0) 1 in
@@ -132,29 +132,29 @@ module _ (w : List ℕ) where
   -- the places of a sender's numbers, and the check, which is a byte
   module _ (is : is_sender w ≡ true) where
     pub nine_places : (k : ℕ) → ltb k 9 ≡ true → k < length w
-    nine_places k h = rw (sender-parts is).nine_long (ltb-true k 9 h)
+    nine_places k h = rw (sender_parts is).nine_long (ltb-true k 9 h)
 
     pub check_byte_lem : get_or w 8 0 ≤ 255
-    check_byte_lem = rw (get_or-drop 6 w 2 0) at (half-byte (get_or w 0 0) (drop 6 w) (sender-parts is).half)
+    check_byte_lem = rw (get_or-drop 6 w 2 0) at (half_byte (get_or w 0 0) (drop 6 w) (sender_parts is).half)
 
     -- what is read of them
-    pub sender-read : {p : Phase} {q : Priority} {r : SendPhase} → p ≡ phase_at (get_or w 6 0) → q ≡ priority_at (get_or w 3 0) →
+    pub sender_read : {p : Phase} {q : Priority} {r : SendPhase} → p ≡ phase_at (get_or w 6 0) → q ≡ priority_at (get_or w 3 0) →
         r ≡ send_phase_at (get_or w 0 0) (at p (get_or w 7 0) (get_or w 8 0)) →
         ◌≡◌ {A = Sender} (record { limits = attempts (get_or w 1 0) (get_or w 2 0); failed = attempts (get_or w 4 0) (get_or w 5 0); priority = q; phase = r }) (sender_at w)
     unfolding sender_at
-    sender-read half priority phase = rw (phase, half, priority, last_three (is_nine w (sender-parts is).nine_long))
+    sender_read half priority phase = rw (phase, half, priority, last_three (is_nine w (sender_parts is).nine_long))
 
 -- the call, by event and numbers
 module _ (w : List ℕ) (event : ℕ) (d buf out : List ℕ) where
-  pub no-event : start < event → send_call w event d buf out ≡ at_sender (refused 1) w buf out
+  pub no_event : start < event → send_call w event d buf out ≡ at_sender (refused 1) w buf out
   unfolding send_call is_event
-  no-event h = rw (lt-leb event start h)
+  no_event h = rw (lt-leb event start h)
 
-  pub no-sender : is_sender w ≡ false → send_call w event d buf out ≡ at_sender (refused 1) w buf out
+  pub no_sender : is_sender w ≡ false → send_call w event d buf out ≡ at_sender (refused 1) w buf out
   unfolding send_call
-  no-sender h = rw (h, and-false (is_event event))
+  no_sender h = rw (h, and-false (is_event event))
 
-  pub at-sender : event ≤ start → is_sender w ≡ true →
+  pub at_sender_lem : event ≤ start → is_sender w ≡ true →
       send_call w event d buf out ≡ at_sender_by (send_of (sender_at w) (event_at event) d buf out).outcome
   unfolding send_call is_event
-  at-sender h is = rw (le-leb event start h, is)
+  at_sender_lem h is = rw (le-leb event start h, is)

@@ -9,26 +9,26 @@ use borrow.Author.Tests.{eqb-true, eq-eqb, ne_eqb}
 use lib.Dec.{eqb}
 use lib.ListN.{length, length-drop}
 use lib.Seq.{sets}
-use Rattle.base.proofs.Places.{take_rest, sets-all}
+use Rattle.base.proofs.Places.{take_rest, sets_all}
 use Rattle.mop_reader.specs.Reading.{max_telegram}
 use Rattle.mop_reader.specs.declared.Reader.TheVariants.{Centre}
-use Rattle.mop_reader.proofs.ReadBack.{is-written}
+use Rattle.mop_reader.proofs.ReadBack.{is_written}
 use Rattle.mop_centre.specs.Request.{max_route}
 use Rattle.mop_centre.specs.Reply.{Receipt, accepted, not_mine, refuses, Answer, unread, reply_reading}
-use Rattle.mop_centre.proofs.Replies.{accepted-passed, not_mine_read, refused-read, receipt-told, stretch_room, stretch_bytes}
+use Rattle.mop_centre.proofs.Replies.{accepted_passed, not_mine_read, refused_read, receipt_told, stretch_room, stretch_bytes}
 use Rattle.c_answer.specs.Answer.{refused}
 use Rattle.c_mop.specs.Centre.{of_receipt, has_reply_places, reply_told, reply_told_by, read_reply_call}
 
 -- the places, by their lengths
 pub record Places (route run : List ℕ) : Type 0 where
-  pub route-long : length route ≡ max_route
+  pub route_long : length route ≡ max_route
   pub run_long : length run ≡ 3
 
-pub places-parts : (route run : List ℕ) → has_reply_places route run ≡ true → Places route run
+pub places_parts : (route run : List ℕ) → has_reply_places route run ≡ true → Places route run
 unfolding has_reply_places
-places-parts route run g =
+places_parts route run g =
     let p = (and-eq-true_iff (eqb (length route) max_route) (eqb (length run) 3)).0 g in
-    record { route-long = eqb-true (length route) max_route p.0; run_long = eqb-true (length run) 3 p.1 }
+    record { route_long = eqb-true (length route) max_route p.0; run_long = eqb-true (length run) 3 p.1 }
 
 pub are_places : (route run : List ℕ) → length route ≡ max_route → length run ≡ 3 → has_reply_places route run ≡ true
 unfolding has_reply_places
@@ -36,42 +36,42 @@ are_places route run a b = rw (eq-eqb (length route) max_route a, eq-eqb (length
 
 -- the call, by these
 module _ (telegram route run : List ℕ) where
-  no-places : has_reply_places route run ≡ false → read_reply_call telegram route run ≡ reply_told (refused 1) route run
+  no_places : has_reply_places route run ≡ false → read_reply_call telegram route run ≡ reply_told (refused 1) route run
   unfolding read_reply_call
-  no-places h = rw h
+  no_places h = rw h
 
   pub bad_route : (length route ≡ max_route → ⊥) → read_reply_call telegram route run ≡ reply_told (refused 1) route run
   unfolding has_reply_places
-  bad_route h = no-places (rw (ne_eqb (length route) max_route h))
+  bad_route h = no_places (rw (ne_eqb (length route) max_route h))
 
   pub bad_run : (length run ≡ 3 → ⊥) → read_reply_call telegram route run ≡ reply_told (refused 1) route run
   unfolding has_reply_places
-  bad_run h = no-places (rw (ne_eqb (length run) 3 h, and-false (eqb (length route) max_route)))
+  bad_run h = no_places (rw (ne_eqb (length run) 3 h, and-false (eqb (length route) max_route)))
 
-  pub with-places : has_reply_places route run ≡ true → read_reply_call telegram route run ≡ reply_told_by (reply_reading telegram)
+  pub with_places : has_reply_places route run ≡ true → read_reply_call telegram route run ≡ reply_told_by (reply_reading telegram)
   unfolding read_reply_call
-  with-places h = rw h
+  with_places h = rw h
 
 -- a route that is put into its places fills them all
-pub route-put : (stations route run : List ℕ) → has_reply_places route run ≡ true → length stations ≡ max_route → sets route 0 stations ≡ stations
-route-put stations route run has long = sets-all stations route (long ∙ sym (places-parts route run has).route-long)
+pub route_put : (stations route run : List ℕ) → has_reply_places route run ≡ true → length stations ≡ max_route → sets route 0 stations ≡ stations
+route_put stations route run has long = sets_all stations route (long ∙ sym (places_parts route run has).route_long)
 
 -- what is told of a telegram
 module _ (telegram : List ℕ) {told : Answer} (is : told ≡ (reply_reading telegram).answer) where
   -- the values of an accepted reply are the end of a telegram that is not too long
   module _ (a : told.receipt ≡ accepted) where
-    pub telegram-short : length telegram ≤ max_telegram
-    telegram-short = let p = accepted-passed telegram (receipt-told telegram is a) in (is-written Centre telegram p.0 p.1.order).short
+    pub telegram_short : length telegram ≤ max_telegram
+    telegram_short = let p = accepted_passed telegram (receipt_told telegram is a) in (is_written Centre telegram p.0 p.1.order).short
 
-    pub values-long : length telegram - told.place ≡ length (reply_reading telegram).values
-    values-long = sym (length-drop told.place telegram) ∙ ap length (sym (take_rest told.place telegram) ∙ stretch_bytes telegram is a)
+    pub values_long : length telegram - told.place ≡ length (reply_reading telegram).values
+    values_long = sym (length-drop told.place telegram) ∙ ap length (sym (take_rest told.place telegram) ∙ stretch_bytes telegram is a)
 
   -- of any other the place is 0
   place_by : (x : Receipt) → told.receipt ≡ x → told.place ≤ max_telegram
   unfolding unread
-  place_by accepted e = omega (arith, stretch_room telegram is e, telegram-short e)
-  place_by not_mine e = rw (is, not_mine_read telegram (receipt-told telegram is e)) (omega arith)
-  place_by (refuses k) e = rw (is, refused-read telegram (receipt-told telegram is e)) (omega arith)
+  place_by accepted e = omega (arith, stretch_room telegram is e, telegram_short e)
+  place_by not_mine e = rw (is, not_mine_read telegram (receipt_told telegram is e)) (omega arith)
+  place_by (refuses k) e = rw (is, refused_read telegram (receipt_told telegram is e)) (omega arith)
 
   pub place_small : told.place ≤ max_telegram
   place_small = place_by told.receipt refl

@@ -3,10 +3,10 @@
 use mathlib.Core.Path.{subst}
 use Rattle.c_net.specs.Bounds.{NetBounds}
 use Rattle.c_net.specs.Private.Small.{SmallRun}
-use Rattle.c_net.proofs.Runs.{small_run, refusal-told}
+use Rattle.c_net.proofs.Runs.{small_run, refusal_told}
 
 pub net_bounds : NetBounds
 net_bounds = record {
   run = λ telegram addresses tables out count e n is. subst SmallRun is (small_run telegram addresses tables out);
-  ending = refusal-told;
+  ending = refusal_told;
 }

@@ -12,7 +12,7 @@ use lib.ListN.{length}
 use Rattle.mop_header.specs.Header.{Head}
 use Rattle.mop_reader.specs.Reading.{Reading, sound, faulty, max_telegram, too_long, reading}
 use Rattle.mop_reader.specs.declared.Reader.TheVariants.{Station}
-use Rattle.mop_reader.proofs.ReadBack.{is-written}
+use Rattle.mop_reader.proofs.ReadBack.{is_written}
 use Rattle.mop_station.specs.Station.{Handled, refuses}
 use Rattle.net_journey.specs.Journey.{Ending, refused_with}
 use Rattle.net_journey.specs.Terms.{last_telegram, is_fine, all_fine, ordinary, all_ordinary}
@@ -31,24 +31,24 @@ use Rattle.c_net.specs.Private.Small.{SmallRun}
 
 -- the last of telegrams without a fault in their headers is short
 fine_short : (tg : List ℕ) (r : Reading) → reading Station tg ≡ r → is_fine r ≡ true → length tg ≤ max_telegram
-fine_short tg (sound h) e f = (is-written Station tg h e).short
+fine_short tg (sound h) e f = (is_written Station tg h e).short
 fine_short tg (faulty k) e f = absurd (false≢true f)
 
-last-short : (l : List (List ℕ)) → all_fine l ≡ true → length (last_telegram l) ≤ max_telegram
+last_short : (l : List (List ℕ)) → all_fine l ≡ true → length (last_telegram l) ≤ max_telegram
 unfolding last_telegram
-last-short [] e = omega arith
-last-short (tg ∷ []) e = fine_short tg (reading Station tg) refl ((and-eq-true_iff (is_fine (reading Station tg)) true).0 e).0
-last-short (tg ∷ next ∷ rest) e = last-short (next ∷ rest) ((and-eq-true_iff (is_fine (reading Station tg)) (all_fine (next ∷ rest))).0 e).1
+last_short [] e = omega arith
+last_short (tg ∷ []) e = fine_short tg (reading Station tg) refl ((and-eq-true_iff (is_fine (reading Station tg)) true).0 e).0
+last_short (tg ∷ next ∷ rest) e = last_short (next ∷ rest) ((and-eq-true_iff (is_fine (reading Station tg)) (all_fine (next ∷ rest))).0 e).1
 
 -- the last of ordinary answers, where it is a refusal
-last-ordinary : (k : ℕ) (earlier : List Handled) → all_ordinary (earlier ++ (refuses k ∷ [])) ≡ true → (7 ≤ k) × (k ≤ 10)
-last-ordinary k [] e =
+last_ordinary : (k : ℕ) (earlier : List Handled) → all_ordinary (earlier ++ (refuses k ∷ [])) ≡ true → (7 ≤ k) × (k ≤ 10)
+last_ordinary k [] e =
     let p = (and-eq-true_iff (leb 7 k) (leb k 10)).0 ((and-eq-true_iff (leb 7 k && leb k 10) true).0 e).0 in
     (leb-true 7 k p.0, leb-true k 10 p.1)
-last-ordinary k (a ∷ earlier) e = last-ordinary k earlier ((and-eq-true_iff (ordinary a) (all_ordinary (earlier ++ (refuses k ∷ [])))).0 e).1
+last_ordinary k (a ∷ earlier) e = last_ordinary k earlier ((and-eq-true_iff (ordinary a) (all_ordinary (earlier ++ (refuses k ∷ [])))).0 e).1
 
-same-ending : {count₁ count n₁ n : ℕ} (e₁ e : Ending) → played count₁ e₁ n₁ ≡ played count e n → e₁ ≡ e
-same-ending e₁ e is = cc
+same_ending : {count₁ count n₁ n : ℕ} (e₁ e : Ending) → played count₁ e₁ n₁ ≡ played count e n → e₁ ≡ e
+same_ending e₁ e is = cc
 
 module _ (tg addresses tables out : List ℕ) where
   -- what holds of every refusal, and of the journey of a telegram that reads well, holds of the outcome
@@ -75,7 +75,7 @@ module _ (tg addresses tables out : List ℕ) where
   small_journey h read set r =
       let c = r.journey.course in (
         at_most_62 (net_of addresses tables) tg c (good_net_lem addresses tables set) r.journey.journey,
-        last-short c.transmissions (r.journey.demand3.all_fine_lem h read),
+        last_short c.transmissions (r.journey.demand3.all_fine_lem h read),
       )
 
   pub small_run : SmallRun (dry_run tg addresses tables out).outcome
@@ -88,16 +88,16 @@ module _ (tg addresses tables out : List ℕ) where
   not_ended : (k : ℕ) → Ended (outright k)
   not_ended k count k₁ n e = let z : ◌≡◌ {A = ℕ} 0 1 = cc in absurd (omega arith)
 
-  ended-journey : (h : Head) → reading Station tg ≡ sound h → set_up addresses tables ≡ true → (r : RanTheJourney tg addresses tables out) →
+  ended_journey : (h : Head) → reading Station tg ≡ sound h → set_up addresses tables ≡ true → (r : RanTheJourney tg addresses tables out) →
       Ended (of_course r.journey.course out).outcome
   unfolding of_course
-  ended-journey h read set r count k n e =
+  ended_journey h read set r count k n e =
       let d = r.journey.demand3 in
-      let by = d.refused_by h read k (same-ending r.journey.course.ending (refused_with k) e) in
-      last-ordinary k by.0 (subst (λ (l : List Handled). all_ordinary l ≡ true) by.1 (d.all-ordinary h read))
+      let by = d.refused_by h read k (same_ending r.journey.course.ending (refused_with k) e) in
+      last_ordinary k by.0 (subst (λ (l : List Handled). all_ordinary l ≡ true) by.1 (d.all_ordinary_lem h read))
 
-  pub refusal-told : Ended (dry_run tg addresses tables out).outcome
-  refusal-told = outcome_by Ended not_ended ended-journey
+  pub refusal_told : Ended (dry_run tg addresses tables out).outcome
+  refusal_told = outcome_by Ended not_ended ended_journey
 
 -- of an answer that is a run
 pub small_parts : (count : ℕ) (e : JourneyEnd) (n : ℕ) {a : DryRunAnswer} → SmallRun (outcome_of a) → a ≡ Played count e n →

@@ -11,7 +11,7 @@ use lib.Dec.{leb}
 use Rattle.base.specs.Choice.{pick}
 use Rattle.crc16.specs.Check.{run_over}
 use Rattle.crc16.specs.Ccitt.{ccitt_bit, ccitt_byte, ccitt_over}
-use Rattle.crc16.proofs.Check.{run-append, steps_bound, run_bound}
+use Rattle.crc16.proofs.Check.{run_append, steps_bound, run_bound}
 
 pub ccitt_none : (c : ℕ) → ccitt_over c [] ≡ c
 unfolding ccitt_over run_over
@@ -23,7 +23,7 @@ ccitt_cons c b bs = refl
 
 pub ccitt_append : (c : ℕ) (xs ys : List ℕ) → ccitt_over c (xs ++ ys) ≡ ccitt_over (ccitt_over c xs) ys
 unfolding ccitt_over
-ccitt_append c xs ys = run-append ccitt_byte c xs ys
+ccitt_append c xs ys = run_append ccitt_byte c xs ys
 
 chosen_bound : (t : Bool) (n : ℕ) → n < 65536 → pick t (bit_xor n 0x1021) n < 65536
 chosen_bound true n h = xor_lt 16 n 0x1021 h (omega arith)

@@ -11,31 +11,31 @@ use Rattle.crc16.specs.Check.{steps, run_over}
 
 -- n steps, of which i are done
 module _ (step : ℕ → ℕ) (n i c : ℕ) where
-  pub steps-turn : i < n → steps step (n - i) c ≡ steps step (n - (i + 1)) (step c)
-  steps-turn h =
+  pub steps_turn : i < n → steps step (n - i) c ≡ steps step (n - (i + 1)) (step c)
+  steps_turn h =
       let e : n - i ≡ suc (n - (i + 1)) = omega arith in
       rw e
 
-  pub steps-end : n ≤ i → steps step (n - i) c ≡ c
-  steps-end h =
+  pub steps_end : n ≤ i → steps step (n - i) c ≡ c
+  steps_end h =
       let e : n - i ≡ 0 = omega arith in
       rw e
 
 -- the bytes, of which those before place i are done
 module _ (byte : ℕ → ℕ → ℕ) (bytes : List ℕ) (i c : ℕ) where
-  pub run-turn : i < length bytes → run_over byte c (drop i bytes) ≡ run_over byte (byte c (get_or bytes i 0)) (drop (i + 1) bytes)
+  pub run_turn : i < length bytes → run_over byte c (drop i bytes) ≡ run_over byte (byte c (get_or bytes i 0)) (drop (i + 1) bytes)
   unfolding run_over
-  run-turn h = rw (add-one, drop-cons bytes i 0)
+  run_turn h = rw (add-one, drop-cons bytes i 0)
 
   pub run_end : length bytes ≤ i → run_over byte c (drop i bytes) ≡ c
   unfolding run_over
   run_end h = rw (drop_of_length-le bytes h)
 
 -- the check over two lists end to end goes on where that over the first ends
-pub run-append : (byte : ℕ → ℕ → ℕ) (c : ℕ) (xs ys : List ℕ) → run_over byte c (xs ++ ys) ≡ run_over byte (run_over byte c xs) ys
+pub run_append : (byte : ℕ → ℕ → ℕ) (c : ℕ) (xs ys : List ℕ) → run_over byte c (xs ++ ys) ≡ run_over byte (run_over byte c xs) ys
 unfolding run_over
-run-append byte c [] ys = refl
-run-append byte c (x ∷ xs) ys = run-append byte (byte c x) xs ys
+run_append byte c [] ys = refl
+run_append byte c (x ∷ xs) ys = run_append byte (byte c x) xs ys
 
 -- what every step keeps below a bound stays below it
 pub steps_bound : (step : ℕ → ℕ) (bound : ℕ) → ((c : ℕ) → step c < bound) → (n c : ℕ) → steps step (suc n) c < bound

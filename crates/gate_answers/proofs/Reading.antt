@@ -25,32 +25,32 @@ four_behind [] = refl
 four_behind (b ∷ bs) = refl
 
 module _ (bs : List ℕ) {z : ℤ} where
-  pub count-read : {n : ℕ} → length bs ≡ 5 → n ≡ of_four (get_or bs 1 0 ∷ get_or bs 2 0 ∷ get_or bs 3 0 ∷ get_or bs 4 0 ∷ []) → z ≡ signed_of top32 n →
+  pub count_read : {n : ℕ} → length bs ≡ 5 → n ≡ of_four (get_or bs 1 0 ∷ get_or bs 2 0 ∷ get_or bs 3 0 ∷ get_or bs 4 0 ∷ []) → z ≡ signed_of top32 n →
       reads (Count z) ≡ sized 5 bs (reads (Count (signed_of top32 (of_four (drop 1 bs)))))
-  count-read h e f =
+  count_read h e f =
       rw (f, e, sized_right 5 bs (reads (Count (signed_of top32 (of_four (drop 1 bs))))) h, four_behind bs)
 
   module _ (h : length bs ≡ 2) (e : z ≡ signed_of top8 (get_or bs 1 0)) where
-    position-sized : sized 2 bs (position_at (signed_of top8 (get_or bs 1 0))) ≡ position_at z
-    position-sized = sized_right 2 bs (position_at (signed_of top8 (get_or bs 1 0))) h ∙ ap position_at (sym e)
+    position_sized : sized 2 bs (position_at (signed_of top8 (get_or bs 1 0))) ≡ position_at z
+    position_sized = sized_right 2 bs (position_at (signed_of top8 (get_or bs 1 0))) h ∙ ap position_at (sym e)
 
-    pub position-read : is_position z ≡ true → reads (Position z) ≡ sized 2 bs (position_at (signed_of top8 (get_or bs 1 0)))
+    pub position_read : is_position z ≡ true → reads (Position z) ≡ sized 2 bs (position_at (signed_of top8 (get_or bs 1 0)))
     unfolding position_at
-    position-read p = sym (position-sized ∙ rw p)
+    position_read p = sym (position_sized ∙ rw p)
 
-    pub position-refused : is_position z ≡ false → refuses 10 ≡ sized 2 bs (position_at (signed_of top8 (get_or bs 1 0)))
+    pub position_refused : is_position z ≡ false → refuses 10 ≡ sized 2 bs (position_at (signed_of top8 (get_or bs 1 0)))
     unfolding position_at
-    position-refused p = sym (position-sized ∙ rw p)
+    position_refused p = sym (position_sized ∙ rw p)
 
 module _ (bs : List ℕ) where
-  pub reading-none : length bs ≡ 0 → answer_reading bs ≡ refuses 7
+  pub reading_none : length bs ≡ 0 → answer_reading bs ≡ refuses 7
   unfolding answer_reading
-  reading-none e = rw (eq-eqb (length bs) 0 e)
+  reading_none e = rw (eq-eqb (length bs) 0 e)
 
   module _ (k : ℕ) (some : length bs ≡ 0 → ⊥) (first : get_or bs 0 0 ≡ k) where
-    pub reading-kind : answer_reading bs ≡ kind_reading k bs
+    pub reading_kind : answer_reading bs ≡ kind_reading k bs
     unfolding answer_reading
-    reading-kind = rw (ne_eqb (length bs) 0 some, first)
+    reading_kind = rw (ne_eqb (length bs) 0 some, first)
 
 pub kind_unknown : (k : ℕ) (bs : List ℕ) → (k ≡ ack → ⊥) → (k ≡ nak → ⊥) → (k ≡ busy → ⊥) → (k ≡ syn → ⊥) → (k ≡ count → ⊥) →
     (k ≡ position → ⊥) → kind_reading k bs ≡ refuses 3

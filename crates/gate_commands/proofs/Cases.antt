@@ -8,7 +8,7 @@ use borrow.Author.Tests.{eq-eqb, ne_eqb, lt-ltb, le-ltb}
 use lib.ListN.{length, get_or}
 use lib.Seq.{sets}
 use Rattle.base.specs.Filling.{Filling, filled, denied}
-use Rattle.base.proofs.Filling.{fitted_short, fitted-stored}
+use Rattle.base.proofs.Filling.{fitted_short, fitted_stored}
 use Rattle.gate_commands.specs.Commands.{answers, refuses, operation, pair, after, function_of, commands, carried_out, functioning, commanding, operate_byte, operating, command_of, command_writing}
 use Rattle.gate_commands.specs.declared.Found.TheVariants.{Function, Unknown}
 use Rattle.gate_commands.specs.declared.GateFunction.{GateFunction}
@@ -52,13 +52,13 @@ module _ (r : GateRegisters) (c f : ℕ) where
   command_unknown h e = rw (lt-ltb c commands h, e)
 
 module _ (r : GateRegisters) (bs : List ℕ) where
-  pub operating-length : (length bs ≡ 3 → ⊥) → operating r bs ≡ operation (refuses 7) r
+  pub operating_length : (length bs ≡ 3 → ⊥) → operating r bs ≡ operation (refuses 7) r
   unfolding operating
-  operating-length n = simp (ne_eqb _ _ n)
+  operating_length n = simp (ne_eqb _ _ n)
 
-  pub operating-kind : length bs ≡ 3 → (get_or bs 0 0 ≡ operate_byte → ⊥) → operating r bs ≡ operation (refuses 3) r
+  pub operating_kind : length bs ≡ 3 → (get_or bs 0 0 ≡ operate_byte → ⊥) → operating r bs ≡ operation (refuses 3) r
   unfolding operating
-  operating-kind n k = simp (eq-eqb _ _ n, ne_eqb _ _ k)
+  operating_kind n k = simp (eq-eqb _ _ n, ne_eqb _ _ k)
 
   pub operating_command : length bs ≡ 3 → get_or bs 0 0 ≡ operate_byte → operating r bs ≡ commanding r (get_or bs 1 0) (get_or bs 2 0)
   unfolding operating
@@ -72,4 +72,4 @@ module _ (c f : ℕ) (out : List ℕ) where
   pub command_room : 3 ≤ length out → {new : List ℕ} → new ≡ sets out 0 (command_of c f) →
       ◌≡◌ {A = Filling} (record { given = filled 3; output = new }) (command_writing c f out)
   unfolding command_writing
-  command_room h e = rw e (fitted-stored (command_of c f) out h)
+  command_room h e = rw e (fitted_stored (command_of c f) out h)

@@ -44,27 +44,27 @@ module _ (r : GateRegisters) (c : ℕ) where
   -- three of the laws, of an operation on registers r that names command c
   record Lawful (o : Operation) : Type 0 where
     only : OnlyAt c r o.registers
-    keeps-edges : (i : ℕ) → edge_at r i ≡ true → edge_at o.registers i ≡ true
-    keeps-all : (o.verdict ≡ answers 0x01 → ⊥) → o.registers ≡ r
+    keeps_edges : (i : ℕ) → edge_at r i ≡ true → edge_at o.registers i ≡ true
+    keeps_all : (o.verdict ≡ answers 0x01 → ⊥) → o.registers ≡ r
 
   as_before : (v : Verdict) → Lawful (operation v r)
   as_before v = record {
-    only = record { levels-long = refl; edges-long = refl; level_kept = λ i h. refl; edge_kept = λ i h. refl };
-    keeps-edges = λ i h. h;
-    keeps-all = λ n. refl;
+    only = record { levels_long = refl; edges_long = refl; level_kept = λ i h. refl; edge_kept = λ i h. refl };
+    keeps_edges = λ i h. h;
+    keeps_all = λ n. refl;
   }
 
   carried_out_lem : (f : GateFunction) → Lawful (operation (answers 0x01) (carried_out r c f))
   unfolding carried_out
   carried_out_lem f = record {
     only = record {
-      levels-long = length-set r.levels c _;
-      edges-long = length-set r.edges c _;
+      levels_long = length-set r.levels c _;
+      edges_long = length-set r.edges c _;
       level_kept = λ i h. get_or-set_other r.levels c i _ false h;
       edge_kept = λ i h. get_or-set_other r.edges c i _ false h;
     };
-    keeps-edges = λ i h. set_keeps r.edges c i _ (after_edge (level_at r c) f (edge_at r c)) h;
-    keeps-all = λ n. absurd (n refl);
+    keeps_edges = λ i h. set_keeps r.edges c i _ (after_edge (level_at r c) f (edge_at r c)) h;
+    keeps_all = λ n. absurd (n refl);
   }
 
   function_lawful : (f : Found) → Lawful (functioning r c f)
@@ -82,14 +82,14 @@ operating_lawful r bs =
     (as_before r c (refuses 3))
     (pick_either (Lawful r c) (ltb c commands) (function_lawful r c (function_of (get_or bs 2 0))) (as_before r c (answers 0x02))))
 
-pub edges-only-set : EdgesOnlySet
-edges-only-set r bs = (operating_lawful r bs).keeps-edges
+pub edges_only_set : EdgesOnlySet
+edges_only_set r bs = (operating_lawful r bs).keeps_edges
 
-pub only-named-changes : OnlyNamedChanges
-only-named-changes r bs = (operating_lawful r bs).only
+pub only_named_changes : OnlyNamedChanges
+only_named_changes r bs = (operating_lawful r bs).only
 
 pub not_ack_keeps_all : NotAckKeepsAll
-not_ack_keeps_all r bs = (operating_lawful r bs).keeps-all
+not_ack_keeps_all r bs = (operating_lawful r bs).keeps_all
 
 -- a command as it is written
 pub command_carried_out : (r : GateRegisters) (c f : ℕ) → operating r (command_of c f) ≡ commanding r c f

@@ -22,8 +22,8 @@ PulseKeepsLevels = (r : GateRegisters) (c : ℕ) → (operating r (command_of c 
 
 -- registers that differ at one place at most
 pub record OnlyAt (place : ℕ) (before after : GateRegisters) : Type 0 where
-  pub levels-long : length after.levels ≡ length before.levels
-  pub edges-long : length after.edges ≡ length before.edges
+  pub levels_long : length after.levels ≡ length before.levels
+  pub edges_long : length after.edges ≡ length before.edges
   pub level_kept : (i : ℕ) → (i ≡ place → ⊥) → level_at after i ≡ level_at before i
   pub edge_kept : (i : ℕ) → (i ≡ place → ⊥) → edge_at after i ≡ edge_at before i
 

@@ -22,30 +22,30 @@ use Rattle.gate_laws.specs.Answers.{InWidth, AnswerReadsBack, AnswerWritesBack}
 use Rattle.gate_laws.proofs.Written.{passed_else, fitted_fills}
 
 -- a position fits one byte
-position-fits : (z : ℤ) → is_position z ≡ true → FitsTop top8 z
+position_fits : (z : ℤ) → is_position z ≡ true → FitsTop top8 z
 unfolding is_position
-position-fits (pos n) e = omega (arith, leb-true n 100 e)
-position-fits (negsuc zero) e = omega arith
-position-fits (negsuc (suc n)) e = absurd (false≢true e)
+position_fits (pos n) e = omega (arith, leb-true n 100 e)
+position_fits (negsuc zero) e = omega arith
+position_fits (negsuc (suc n)) e = absurd (false≢true e)
 
-count-back : (z : ℤ) → FitsTop top32 z → signed_of top32 (of_four (four_bytes (bits_of top32 z))) ≡ z
-count-back z h = ap (signed_of top32) (four_back (bits_of top32 z) (bits_bound top32 z h)) ∙ signed_bits top32 z h
+count_back : (z : ℤ) → FitsTop top32 z → signed_of top32 (of_four (four_bytes (bits_of top32 z))) ≡ z
+count_back z h = ap (signed_of top32) (four_back (bits_of top32 z) (bits_bound top32 z h)) ∙ signed_bits top32 z h
 
-reads-back : (a : BarrierAnswer) → InWidth a → is_answer a ≡ true → answer_reading (answer_bytes a) ≡ reads a
+reads_back : (a : BarrierAnswer) → InWidth a → is_answer a ≡ true → answer_reading (answer_bytes a) ≡ reads a
 unfolding answer_reading kind_reading answer_bytes four_bytes is_answer position_at
-reads-back Ack h e = refl
-reads-back Nak h e = refl
-reads-back Busy h e = refl
-reads-back Syn h e = refl
-reads-back (Count z) h e = ap (λ (z : ℤ). reads (Count z)) (count-back z h)
-reads-back (Position z) h e = rw (signed_bits top8 z (position-fits z e), e)
+reads_back Ack h e = refl
+reads_back Nak h e = refl
+reads_back Busy h e = refl
+reads_back Syn h e = refl
+reads_back (Count z) h e = ap (λ (z : ℤ). reads (Count z)) (count_back z h)
+reads_back (Position z) h e = rw (signed_bits top8 z (position_fits z e), e)
 
-pub answer-reads-back : AnswerReadsBack
+pub answer_reads_back : AnswerReadsBack
 unfolding answer_writing
-answer-reads-back a out n h e =
+answer_reads_back a out n h e =
     let good = passed_else out n (is_answer a) 10 (fitted (answer_bytes a) out) e in
     let fills = fitted_fills n (answer_bytes a) out good.1 in
-    rw (good.0, fills.is) (reads-back a h good.0)
+    rw (good.0, fills.is) (reads_back a h good.0)
 
 -- the four bytes of a count and the one of a position, there and back
 four_signed : {bs : List ℕ} → Bytes bs → length bs ≡ 4 → four_bytes (bits_of top32 (signed_of top32 (of_four bs))) ≡ bs
@@ -131,8 +131,8 @@ unfolding answer_reading
 means none = refusing [] 7
 means (more {b} {bs} h bytes) = rw (ne_eqb (length (b ∷ bs)) 0 (λ e. omega arith)) (kind_means b bytes)
 
-pub answer-writes-back : AnswerWritesBack
+pub answer_writes_back : AnswerWritesBack
 unfolding answer_writing
-answer-writes-back a bs out bytes e =
+answer_writes_back a bs out bytes e =
     let has = means bytes a e in
     rw (has.good, has.is)

@@ -26,8 +26,8 @@ is_refusal (telegram s n) = false
 is_refusal (token s) = false
 is_refusal (refuses k) = true
 
-no-refusal : (r : Response) (k : ℕ) → is_refusal r ≡ false → r ≡ refuses k → ⊥
-no-refusal r k e h = false≢true (sym e ∙ ap is_refusal h)
+no_refusal : (r : Response) (k : ℕ) → is_refusal r ≡ false → r ≡ refuses k → ⊥
+no_refusal r k e h = false≢true (sym e ∙ ap is_refusal h)
 
 same_number : (j k : ℕ) → refuses j ≡ refuses k → j ≡ k
 same_number j k e = cc
@@ -51,7 +51,7 @@ module _ (s : GateState) (st out : List ℕ) where
   -- what is no refusal
   answered : (r : Response) (next : GateState) (new end : List ℕ) → is_refusal r ≡ false → end ≡ output_after r st out →
       StoreKept s st new → Lawful (with (to r next) new end)
-  answered r next new end e p kept = record { refused = λ k h. absurd (no-refusal r k e h); put = p; stores = kept }
+  answered r next new end e p kept = record { refused = λ k h. absurd (no_refusal r k e h); put = p; stores = kept }
 
   goes_on : (next : GateState) → Kept (to nothing next)
   goes_on next = answered nothing next st out refl refl same
@@ -69,8 +69,8 @@ module _ (s : GateState) (st out : List ℕ) where
     stores = same;
   }
 
-  keeps-all : Kept (to (refuses 1) s)
-  keeps-all = record {
+  keeps_all : Kept (to (refuses 1) s)
+  keeps_all = record {
     refused = λ k e. record { kept = λ h. refl; again = λ h. absurd (h (sym (same_number 1 k e))) };
     put = refl;
     stores = same;
@@ -126,14 +126,14 @@ module _ (st out : List ℕ) where
   unfolding receive_of
   lawful own s e =
       pick_either (Lawful s st out) (not (eqb (length st) max_data) || overcounts s)
-      (keeps-all s st out)
+      (keeps_all s st out)
       (pick_either (Lawful s st out) (eqb own reserved) (starts_again s st out 16 (λ f. omega arith)) (event_lawful own s e))
 
 pub refused_starts_again : RefusedStartsAgain
 refused_starts_again own s st e out = (lawful st out own s e).refused
 
-pub only-accepted-is-put : OnlyAcceptedIsPut
-only-accepted-is-put own s st e out = (lawful st out own s e).put
+pub only_accepted_is_put : OnlyAcceptedIsPut
+only_accepted_is_put own s st e out = (lawful st out own s e).put
 
 pub stores_at_count : StoresAtCount
 stores_at_count own s st e out = (lawful st out own s e).stores

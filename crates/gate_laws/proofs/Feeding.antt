@@ -16,7 +16,7 @@ use Rattle.gate_receive.specs.Receive.{Response, Reaction, Outcome, Storing, Jud
 use Rattle.gate_receive.specs.declared.GateState.{GateState}
 use Rattle.gate_receive.specs.declared.GateState.TheVariants.{Rest, AtDestination, AtSource, AtLength, AtData, AtLowCheck, OthersSource, OthersLength, Dropping}
 use Rattle.gate_receive.proofs.Bounds.{receive_byte, data_within, low_check_within, dropping_within}
-use Rattle.gate_receive.proofs.Rows.{rest_start, rest_other, destination-own, destination_other, length_good, data_stored, data_high_check, right_check, last_dropped, one_dropped}
+use Rattle.gate_receive.proofs.Rows.{rest_start, rest_other, destination_own, destination_other, length_good, data_stored, data_high_check, right_check, last_dropped, one_dropped}
 use Rattle.gate_laws.specs.Feeding.{Fed, after, feed}
 
 pub fed_none : (own : ℕ) (s : GateState) (st out : List ℕ) →
@@ -62,7 +62,7 @@ module _ (own : ℕ) (st out : List ℕ) (long : length st ≡ max_data) (had : 
     fed_own : feed own AtDestination st out (own ∷ bs)
         ≡ after (nothing ∷ []) (feed own (AtSource own (ccitt_over ccitt_start (start_byte ∷ own ∷ []))) st out bs)
     unfolding byte_of overcounts
-    fed_own = passed AtDestination _ own bs refl refl (destination-own own own refl)
+    fed_own = passed AtDestination _ own bs refl refl (destination_own own own refl)
 
     fed_source : (c s : ℕ) →
         feed own (AtSource own c) st out (s ∷ bs) ≡ after (nothing ∷ []) (feed own (AtLength own s (ccitt_byte c s)) st out bs)

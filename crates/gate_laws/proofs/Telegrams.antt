@@ -10,14 +10,14 @@ use lib.ListN.{length, set, take, length-append, length-set, replicate, replicat
 use lib.Seq.{sets, length-take-le}
 use Rattle.base.specs.Places.{placed}
 use Rattle.base.specs.Words.{high_byte}
-use Rattle.base.proofs.Places.{sets-placed, take-placed, length-placed}
+use Rattle.base.proofs.Places.{sets_placed, take_placed, length_placed}
 use Rattle.crc16.specs.Ccitt.{ccitt_start, ccitt_over}
 use Rattle.crc16.proofs.CcittCheck.{ccitt_none, ccitt_cons}
 use Rattle.gate_telegram.specs.Telegram.{reserved, max_data, check_of, telegram_of}
-use Rattle.gate_telegram.proofs.Telegrams.{opening, closing, telegram-bytes, check_split}
+use Rattle.gate_telegram.proofs.Telegrams.{opening, closing, telegram_bytes, check_split}
 use Rattle.gate_receive.specs.Receive.{Response, nothing, starting_again, judging, accepted_of}
 use Rattle.gate_receive.specs.declared.GateState.TheVariants.{Rest, AtData, Dropping}
-use Rattle.gate_receive.proofs.Rows.{accepted-token, accepted_data}
+use Rattle.gate_receive.proofs.Rows.{accepted_token, accepted_data}
 use Rattle.gate_laws.specs.Feeding.{Fed, after, feed}
 use Rattle.gate_laws.specs.Telegrams.{acceptance, accepted, WrittenIsReceived, Passed, none, skipped, others, PassedOver, ReceivedBehind}
 use Rattle.gate_laws.proofs.Feeding.{fed_none, before, fed_other, fed_opening, fed_others_opening, fed_dropped, fed_last_dropped, fed_data, fed_high_check, fed_low_check}
@@ -34,14 +34,14 @@ module _ (own d s n : ℕ) (out : List ℕ) (had : own ≡ reserved → ⊥) (fi
       (fed_data own st out long had d s n c _ fits k b (omega arith)
       ∙ before nothing (taken bs (k + 1) _ (set st k b) ts (omega arith) (simp length-set long)))
 
-placed-none : (l : List ℕ) → placed [] l ≡ l
+placed_none : (l : List ℕ) → placed [] l ≡ l
 unfolding placed
-placed-none l = refl
+placed_none l = refl
 
 -- what is accepted is the data in the first places of the store
 pub accepts : (s n : ℕ) (st out : List ℕ) → n ≤ length st → n ≤ length out →
     accepted_of s n st out ≡ judging (starting_again (acceptance s (take n st))) (placed (take n st) out)
-accepts s zero st out h room = rw (placed-none out) (accepted-token s 0 st out refl)
+accepts s zero st out h room = rw (placed_none out) (accepted_token s 0 st out refl)
 accepts s (suc n) [] out h room = absurd (omega arith)
 accepts s (suc n) (b ∷ st) out h room =
     accepted_data s (suc n) (b ∷ st) out (λ e. omega arith) room ∙ rw (length-take-le n st (omega arith))
@@ -60,11 +60,11 @@ module _ (d s : ℕ) (bs st out : List ℕ) (good : Sound d s (length bs)) (long
   ended : (c : ℕ) →
       feed d (AtData d s (length bs) (length bs) c) (placed bs st) out (closing c) ≡ finished (nothing ∷ acceptance s bs ∷ [])
   ended c =
-      let same : length (placed bs st) ≡ max_data = length-placed bs st (omega arith) ∙ long in
+      let same : length (placed bs st) ≡ max_data = length_placed bs st (omega arith) ∙ long in
       fed_high_check d (placed bs st) out same good.destination d s (length bs) c _ good.fits (high_byte c)
       ∙ before nothing
       (fed_low_check d (placed bs st) out same good.destination d s (length bs) c [] good.fits good.source good.token
-      (acceptance s bs) (placed bs out) (rw take-placed at (accepts s (length bs) (placed bs st) out (omega arith) room))
+      (acceptance s bs) (placed bs out) (rw take_placed at (accepts s (length bs) (placed bs st) out (omega arith) room))
       ∙ before (acceptance s bs) (fed_none _ _ _ _))
 
   -- the data and its check
@@ -74,23 +74,23 @@ module _ (d s : ℕ) (bs st out : List ℕ) (good : Sound d s (length bs)) (long
   data_received =
       taken d d s (length bs) out good.destination good.fits bs 0 _ st _ (omega arith) long
       ∙ ap (after (replicate (length bs) nothing))
-      (rw (zero-add (length bs), ← check_split d s bs, sets-placed bs st (omega arith)) (ended (check_of d s bs)))
+      (rw (zero-add (length bs), ← check_split d s bs, sets_placed bs st (omega arith)) (ended (check_of d s bs)))
 
   received : feed d Rest st out (telegram_of d s bs) ≡ accepted (length bs + 6) s bs st out
   received =
       let n : length bs + 6 - 1 ≡ suc (suc (suc (suc (suc (length bs))))) = omega arith in
-      rw (telegram-bytes d s bs, n, ← one_more (length bs) (acceptance s bs ∷ []))
+      rw (telegram_bytes d s bs, n, ← one_more (length bs) (acceptance s bs ∷ []))
       (fed_opening d st out long good.destination s (length bs) _ good.fits
       ∙ ap (after (nothing ∷ nothing ∷ nothing ∷ nothing ∷ [])) data_received)
 
-pub written-is-received : WrittenIsReceived
-written-is-received d s n bs buf st out e long room =
+pub written_is_received : WrittenIsReceived
+written_is_received d s n bs buf st out e long room =
     let w = wrote d s n bs buf e in
     rw (w.is, w.long) (received d s bs st out w.sound long room)
 
 -- answers in two parts
-two-parts : (m n : ℕ) (f : Fed) → after (replicate m nothing) (after (replicate n nothing) f) ≡ after (replicate (m + n) nothing) f
-two-parts m n f = rw (← replicate-append-replicate m n nothing, append_assoc)
+two_parts : (m n : ℕ) (f : Fed) → after (replicate m nothing) (after (replicate n nothing) f) ≡ after (replicate (m + n) nothing) f
+two_parts m n f = rw (← replicate-append-replicate m n nothing, append_assoc)
 
 module _ (own : ℕ) (st out : List ℕ) (had : own ≡ reserved → ⊥) (long : length st ≡ max_data) where
   -- so many bytes are dropped
@@ -112,12 +112,12 @@ module _ (own : ℕ) (st out : List ℕ) (had : own ≡ reserved → ⊥) (long 
       ∙ ap (after (nothing ∷ nothing ∷ nothing ∷ nothing ∷ []))
       (dropped held (n + 2) (bs ++ rest) e (omega arith) (omega arith)
       ∙ ap (after (replicate (length held) nothing)) (passes rest p)
-      ∙ two-parts (length held) (length bs) _))
+      ∙ two_parts (length held) (length bs) _))
 
 pub passed_over : PassedOver
 passed_over own front rest st out had long p = passes own st out had long rest p
 
-pub received-behind : ReceivedBehind
-received-behind d s n front bs buf st out p e long room =
+pub received_behind : ReceivedBehind
+received_behind d s n front bs buf st out p e long room =
     passed_over d front _ st out (wrote d s n bs buf e).sound.destination long p
-    ∙ ap (after (replicate (length front) nothing)) (written-is-received d s n bs buf st out e long room)
+    ∙ ap (after (replicate (length front) nothing)) (written_is_received d s n bs buf st out e long room)

@@ -10,23 +10,23 @@ use lib.Dec.{eqb, ltb}
 use lib.ListN.{length, take}
 use Rattle.base.specs.Choice.{pick}
 use Rattle.base.specs.Filling.{filled, refused, Filling, denied, written, fitted}
-use Rattle.base.proofs.Places.{take-placed}
+use Rattle.base.proofs.Places.{take_placed}
 use Rattle.base.proofs.Tests.{neither}
 use Rattle.gate_telegram.specs.Telegram.{reserved, max_data, slave_token, telegram_of, bad_addresses, telegram_writing}
-use Rattle.gate_telegram.proofs.Telegrams.{length-telegram}
+use Rattle.gate_telegram.proofs.Telegrams.{length_telegram}
 
 -- a call that gives a length was refused by no test
 module _ (out : List ℕ) (n : ℕ) where
-  refused-filled : (k : ℕ) → refused k ≡ filled n → ⊥
-  refused-filled k e = let z : ◌≡◌ {A = ℕ} 0 1 = cc in omega arith
+  refused_filled : (k : ℕ) → refused k ≡ filled n → ⊥
+  refused_filled k e = let z : ◌≡◌ {A = ℕ} 0 1 = cc in omega arith
 
   passed : (t : Bool) (k : ℕ) (f : Filling) → (pick t (denied k out) f).given ≡ filled n → (t ≡ false) × (f.given ≡ filled n)
-  passed true k f e = absurd (refused-filled k e)
+  passed true k f e = absurd (refused_filled k e)
   passed false k f e = (refl, e)
 
   pub passed_else : (t : Bool) (k : ℕ) (f : Filling) → (pick t f (denied k out)).given ≡ filled n → (t ≡ true) × (f.given ≡ filled n)
   passed_else true k f e = (refl, e)
-  passed_else false k f e = absurd (refused-filled k e)
+  passed_else false k f e = absurd (refused_filled k e)
 
 same_length : (m n : ℕ) → filled m ≡ filled n → n ≡ m
 same_length m n e = cc
@@ -41,7 +41,7 @@ unfolding fitted
 fitted_fills n bytes out e =
     let room = passed out n (ltb (length out) (length bytes)) 11 (written bytes out) e in
     let long : n ≡ length bytes = same_length (length bytes) n room.1 in
-    record { long = long; is = rw (room.0, long) (take-placed bytes out) }
+    record { long = long; is = rw (room.0, long) (take_placed bytes out) }
 
 -- the addresses and the number of data bytes that a telegram can be written for
 pub record Sound (d s n : ℕ) : Type 0 where
@@ -77,6 +77,6 @@ module _ (d s n : ℕ) (bs buf : List ℕ) where
       let fills = fitted_fills n (telegram_of d s bs) buf few.1 in
       record {
         sound = sound d s (length bs) good.0 (ltb-false max_data (length bs) few.0);
-        long = fills.long ∙ length-telegram d s bs;
+        long = fills.long ∙ length_telegram d s bs;
         is = rw (good.0, few.0) fills.is;
       }

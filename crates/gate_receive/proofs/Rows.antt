@@ -8,7 +8,7 @@ use native.Mathlib.Nat.{sub-zero}
 use borrow.Author.Tests.{eq-eqb, ne_eqb, lt-ltb, le-ltb, le-leb, lt-leb}
 use lib.ListN.{length, set, take}
 use lib.Seq.{sets, length-take-le}
-use Rattle.base.proofs.Places.{sets-placed}
+use Rattle.base.proofs.Places.{sets_placed}
 use Rattle.base.specs.Places.{placed}
 use Rattle.base.specs.Words.{word}
 use Rattle.crc16.specs.Ccitt.{ccitt_start, ccitt_byte, ccitt_over}
@@ -26,10 +26,10 @@ module _ (b : ℕ) where
   rest_other e = simp (ne_eqb _ _ e)
 
 module _ (own b : ℕ) where
-  pub destination-own : b ≡ own →
+  pub destination_own : b ≡ own →
       destination_of own b ≡ to nothing (AtSource b (ccitt_over ccitt_start (start_byte ∷ b ∷ [])))
   unfolding destination_of
-  destination-own e = simp (eq-eqb _ _ e)
+  destination_own e = simp (eq-eqb _ _ e)
 
   pub destination_other : (b ≡ own → ⊥) → destination_of own b ≡ to nothing OthersSource
   unfolding destination_of
@@ -55,14 +55,14 @@ module _ (d s n k c b : ℕ) (st : List ℕ) where
   data_high_check h = simp (le-ltb _ _ h)
 
 module _ (s n : ℕ) (st out : List ℕ) where
-  pub accepted-token : n ≡ 0 → accepted_of s n st out ≡ judging (starting_again (token s)) out
+  pub accepted_token : n ≡ 0 → accepted_of s n st out ≡ judging (starting_again (token s)) out
   unfolding accepted_of
-  accepted-token e = simp (eq-eqb _ _ e)
+  accepted_token e = simp (eq-eqb _ _ e)
 
-  pub accepted-short : (n ≡ 0 → ⊥) → length out < n →
+  pub accepted_short : (n ≡ 0 → ⊥) → length out < n →
       accepted_of s n st out ≡ judging (starting_again (refuses 11)) out
   unfolding accepted_of
-  accepted-short e h = simp (ne_eqb _ _ e, lt-ltb _ _ h)
+  accepted_short e h = simp (ne_eqb _ _ e, lt-ltb _ _ h)
 
   pub accepted_data : (n ≡ 0 → ⊥) → n ≤ length out →
       accepted_of s n st out ≡ judging (starting_again (telegram s n)) (placed (take n st) out)
@@ -72,7 +72,7 @@ module _ (s n : ℕ) (st out : List ℕ) where
 -- the data of the store, put into the output
 pub data_put : (n : ℕ) (st out : List ℕ) → n ≤ length st → n ≤ length out →
     sets out 0 (take (n - 0) st) ≡ placed (take n st) out
-data_put n st out h k = rw sub-zero (sets-placed (take n st) out (rw (length-take-le n st h) k))
+data_put n st out h k = rw sub-zero (sets_placed (take n st) out (rw (length-take-le n st h) k))
 
 module _ (d s n c h b : ℕ) (st out : List ℕ) where
   pub wrong_check : (word h b ≡ c → ⊥) → judged_of d s n c h b st out ≡ judging (starting_again (refuses 15)) out

@@ -24,5 +24,5 @@ refusal_of_number OutputShort = refl
 refusal_of_number Check = refl
 refusal_of_number Address = refl
 
-pub numbers-differ : NumbersDiffer
-numbers-differ a b e = sym (refusal_of_number a) ∙ ap refusal_of e ∙ refusal_of_number b
+pub numbers_differ : NumbersDiffer
+numbers_differ a b e = sym (refusal_of_number a) ∙ ap refusal_of e ∙ refusal_of_number b

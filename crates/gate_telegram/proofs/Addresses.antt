@@ -32,6 +32,6 @@ module _ (d s n : ℕ) where
     bad_source e = simp (ne_eqb _ _ had, eq-eqb _ _ e)
 
     -- neither is FF: the token decides
-    pub addresses-token : (s ≡ reserved → ⊥) → bad_addresses d s n ≡ slave_token d s n
+    pub addresses_token : (s ≡ reserved → ⊥) → bad_addresses d s n ≡ slave_token d s n
     unfolding bad_addresses
-    addresses-token e = simp (ne_eqb _ _ had, ne_eqb _ _ e)
+    addresses_token e = simp (ne_eqb _ _ had, ne_eqb _ _ e)

@@ -48,10 +48,10 @@ dles [] = 0
 dles (b ∷ bs) = pick (eqb b DLE) (suc (dles bs)) (dles bs)
 
 module _ (b : ℕ) (bs : List ℕ) where
-  length-first : (t : Bool) → length (doubled bs) ≡ length bs + dles bs →
+  length_first : (t : Bool) → length (doubled bs) ≡ length bs + dles bs →
       length (pick t (b ∷ b ∷ []) (b ∷ []) ++ doubled bs) ≡ suc (length bs) + pick t (suc (dles bs)) (dles bs)
-  length-first true e = omega arith
-  length-first false e = omega arith
+  length_first true e = omega arith
+  length_first false e = omega arith
 
   xor_first : (t : Bool) → eqb b DLE ≡ t →
       ((c : ℕ) → xor_over c (doubled bs) ≡ xor_over (xor_over c bs) (replicate (dles bs) DLE)) → (c : ℕ) →
@@ -65,13 +65,13 @@ module _ (b : ℕ) (bs : List ℕ) where
   xor_first false e ih c = ih (bit_xor c b)
 
 -- each DLE makes the data as it is sent one byte longer
-length-doubled : (d : List ℕ) → length (doubled d) ≡ length d + dles d
+length_doubled : (d : List ℕ) → length (doubled d) ≡ length d + dles d
 unfolding doubled sent dles
-length-doubled [] = refl
-length-doubled (b ∷ bs) = length-first b bs (eqb b DLE) (length-doubled bs)
+length_doubled [] = refl
+length_doubled (b ∷ bs) = length_first b bs (eqb b DLE) (length_doubled bs)
 
 pub not_shorter : (d : List ℕ) → length d ≤ length (doubled d)
-not_shorter d = omega (arith, length-doubled d)
+not_shorter d = omega (arith, length_doubled d)
 
 -- and is in the exclusive or of what is sent once more than in that of the data
 xor_doubled : (d : List ℕ) (c : ℕ) → xor_over c (doubled d) ≡ xor_over (xor_over c d) (replicate (dles d) DLE)
@@ -84,7 +84,7 @@ module _ (d : List ℕ) (n : ℕ) (sends : n ≡ length (doubled d)) where
   -- the exclusive or over them is that of the data, and one DLE more where the data has an odd number of DLEs
   xor_sent : xor_over 0 (doubled d) ≡ xor_over (xor_over 0 d) (replicate ((n - length d) % 2) DLE)
   xor_sent =
-      let many : dles d ≡ n - length d = omega (arith, length-doubled d) in
+      let many : dles d ≡ n - length d = omega (arith, length_doubled d) in
       xor_doubled d 0
       ∙ xor_run DLE (dles d) (xor_over 0 d)
       ∙ ap (λ (k : ℕ). xor_over (xor_over 0 d) (replicate (k % 2) DLE)) many

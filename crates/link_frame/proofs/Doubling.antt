@@ -28,10 +28,10 @@ module _ (b : ℕ) where
   unfolding sent
   sent_other d = simp (ne_eqb _ _ d)
 
-doubled-append : (xs ys : List ℕ) → doubled (xs ++ ys) ≡ doubled xs ++ doubled ys
+doubled_append : (xs ys : List ℕ) → doubled (xs ++ ys) ≡ doubled xs ++ doubled ys
 unfolding doubled
-doubled-append [] ys = refl
-doubled-append (x ∷ xs) ys = rw (doubled-append xs ys) (sym (append_assoc (sent x) (doubled xs) (doubled ys)))
+doubled_append [] ys = refl
+doubled_append (x ∷ xs) ys = rw (doubled_append xs ys) (sym (append_assoc (sent x) (doubled xs) (doubled ys)))
 
 pub none_left : (d : List ℕ) (i : ℕ) → length d ≤ i → doubled (drop i d) ≡ []
 unfolding doubled
@@ -55,8 +55,8 @@ module _ (d : List ℕ) (i : ℕ) (h : i < length d) where
   pub next_other : (get_or d i 0 ≡ DLE → ⊥) → Once d i
   next_other e = next (sent_other (get_or d i 0) e)
 
-  pub next-byte : Splits (drop i d) (get_or d i 0 ∷ []) (drop (i + 1) d)
-  next-byte = record { is = rw (drop-cons d i 0, add-one) }
+  pub next_byte : Splits (drop i d) (get_or d i 0 ∷ []) (drop (i + 1) d)
+  next_byte = record { is = rw (drop-cons d i 0, add-one) }
 
 -- the part from place i up to place e
 pub next_part : (d : List ℕ) (i e : ℕ) → i ≤ e → Splits (doubled (drop i d)) (doubled (take (e - i) (drop i d))) (doubled (drop e d))
@@ -65,7 +65,7 @@ next_part d i e h =
     record {
       is =
           ap doubled (sym (take-append-drop (e - i) (drop i d)))
-          ∙ doubled-append (take (e - i) (drop i d)) _
+          ∙ doubled_append (take (e - i) (drop i d)) _
           ∙ rw (drop-drop (e - i) i d, k);
     }
 
@@ -81,32 +81,32 @@ plain [] = λ p. refl
 plain (b ∷ bs) = plain_first b bs (eqb b DLE) refl (plain bs)
 
 -- data that is nothing but DLE is sent as a run of twice its length
-run-first : (b : ℕ) (bs : List ℕ) (t : Bool) → eqb b DLE ≡ t →
+run_first : (b : ℕ) (bs : List ℕ) (t : Bool) → eqb b DLE ≡ t →
     (every is_dle bs ≡ true → doubled bs ≡ replicate (length bs + length bs) DLE) →
     t && every is_dle bs ≡ true → sent b ++ doubled bs ≡ replicate (suc (length bs) + suc (length bs)) DLE
-run-first b bs false e ih p = absurd (false≢true p)
-run-first b bs true e ih p =
+run_first b bs false e ih p = absurd (false≢true p)
+run_first b bs true e ih p =
     rw (sent_dle b (eqb-true b DLE e), ih p, eqb-true b DLE e, suc-add (length bs) (suc (length bs)), add-suc (length bs) (length bs))
 
 pub run : (d : List ℕ) → every is_dle d ≡ true → doubled d ≡ replicate (length d + length d) DLE
 unfolding doubled
 run [] = λ p. refl
-run (b ∷ bs) = run-first b bs (eqb b DLE) refl (run bs)
+run (b ∷ bs) = run_first b bs (eqb b DLE) refl (run bs)
 
 -- whether a byte before place i has failed a test is known: what is left decides
 module _ (test : ℕ → Bool) (d : List ℕ) (i : ℕ) (failed : Bool) (known : not failed && every test (drop i d) ≡ every test d) where
-  pub every-next : i < length d → test (get_or d i 0) ≡ true → not failed && every test (drop (i + 1) d) ≡ every test d
-  every-next h e =
+  pub every_next : i < length d → test (get_or d i 0) ≡ true → not failed && every test (drop (i + 1) d) ≡ every test d
+  every_next h e =
       let first : every test (drop i d) ≡ every test (drop (i + 1) d) = rw (drop-cons d i 0, add-one) (rw e) in
       rw (← first) known
 
-  pub every-fails : i < length d → test (get_or d i 0) ≡ false → false ≡ every test d
-  every-fails h e =
+  pub every_fails : i < length d → test (get_or d i 0) ≡ false → false ≡ every test d
+  every_fails h e =
       let first : every test (drop i d) ≡ false = rw (drop-cons d i 0) (rw e) in
       sym (and-false (not failed)) ∙ rw (← first) known
 
-  pub every-end : length d ≤ i → not failed ≡ every test d
-  every-end h =
+  pub every_end : length d ≤ i → not failed ≡ every test d
+  every_end h =
       let none : every test (drop i d) ≡ true = rw (drop_of_length-le d h) in
       sym (and-true (not failed)) ∙ rw (← none) known
 

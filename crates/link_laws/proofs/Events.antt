@@ -85,9 +85,9 @@ unfolding event_of
 event_lawful (Byte b) s buf = byte_lawful s.count buf s.phase s.check b
 event_lawful Timer s buf = timer_lawful s.count buf s.phase
 
-pub writes-at-count : WritesAtCount
+pub writes_at_count : WritesAtCount
 unfolding receive_of
-writes-at-count s e buf =
+writes_at_count s e buf =
     pick_either (λ (o : Outcome). OnlyAt s.count buf o.buffer) (against s.count buf)
     (same s.count buf)
     (event_lawful e s buf).0

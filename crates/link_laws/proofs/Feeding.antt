@@ -12,7 +12,7 @@ use Rattle.link_receive.specs.declared.Dle.TheVariants.{Seen, NotSeen}
 use Rattle.link_receive.specs.declared.LinkEvent.TheVariants.{Byte}
 use Rattle.link_receive.specs.declared.LinkState.{LinkState}
 use Rattle.link_receive.specs.declared.Phase.TheVariants.{Rest, Inside, Waiting}
-use Rattle.link_receive.proofs.Bounds.{store-room, receive_agrees}
+use Rattle.link_receive.proofs.Bounds.{store_room, receive_agrees}
 use Rattle.link_receive.proofs.Rows.{rest_stx, inside_dle, inside_data, seen_dle, seen_etx, right_check}
 use Rattle.link_laws.specs.Feeding.{after, feed}
 
@@ -35,7 +35,7 @@ byte s buf b h k = receive_agrees s (Byte b) buf h k
 stored : (n c b : ℕ) (buf : List ℕ) → n < length buf → n < 1024 →
     data_of n c b buf ≡ with (to nothing (at (Inside NotSeen) (n + 1) c)) (set buf n b)
 unfolding data_of after_store
-stored n c b buf h k = rw (store-room n c b buf h k)
+stored n c b buf h k = rw (store_room n c b buf h k)
 
 pub fed_stx : (c : ℕ) (buf bs : List ℕ) → feed (at Rest 0 c) buf (STX ∷ bs) ≡ after (sends DLE ∷ []) (feed (at (Inside NotSeen) 0 0) buf bs)
 unfolding byte_of

@@ -13,12 +13,12 @@ use lib.Dec.{eqb}
 use lib.ListN.{length, set, length-set, replicate, replicate-append-replicate}
 use lib.Seq.{sets, length-sets}
 use Rattle.base.specs.Places.{placed}
-use Rattle.base.proofs.Places.{sets-placed}
+use Rattle.base.proofs.Places.{sets_placed}
 use Rattle.link_frame.specs.ControlBytes.{ETX, DLE}
 use Rattle.link_frame.specs.Frame.{doubled, xor_over, check_byte, frame_of}
 use Rattle.link_frame.proofs.Doubling.{sent_dle, sent_other}
 use Rattle.link_frame.proofs.Check.{check_byte_lem}
-use Rattle.link_frame.proofs.Framing.{frame-bytes, length-frame}
+use Rattle.link_frame.proofs.Framing.{frame_bytes, length_frame}
 use Rattle.link_receive.specs.Receive.{Response, nothing, sends, delivers, at}
 use Rattle.link_receive.specs.declared.Dle.TheVariants.{NotSeen}
 use Rattle.link_receive.specs.declared.Phase.TheVariants.{Rest, Inside}
@@ -66,8 +66,8 @@ ended n c buf h k =
     ∙ before nothing (fed_check n (bit_xor (bit_xor c DLE) ETX) buf [] h k ∙ before (delivers DLE n) (fed_none _ _)))
 
 -- two more of the same
-two-more : (n m : ℕ) (rs : List Response) → m ≡ n + 2 → replicate n nothing ++ (nothing ∷ nothing ∷ rs) ≡ replicate m nothing ++ rs
-two-more n m rs e =
+two_more : (n m : ℕ) (rs : List Response) → m ≡ n + 2 → replicate n nothing ++ (nothing ∷ nothing ∷ rs) ≡ replicate m nothing ++ rs
+two_more n m rs e =
     rw e (sym (append_assoc (replicate n nothing) (nothing ∷ nothing ∷ []) rs)
     ∙ ap (λ (l : List Response). l ++ rs) (replicate-append-replicate n 2 nothing))
 
@@ -76,14 +76,14 @@ closing : (d buf : List ℕ) → length d ≤ length buf → length d ≤ 1024 �
     feed (at (Inside NotSeen) (0 + length d) (xor_over 0 (doubled d))) (sets buf 0 d) (DLE ∷ ETX ∷ check_byte d ∷ [])
     ≡ record { answers = nothing ∷ nothing ∷ delivers DLE (length d) ∷ []; state = at Rest 0 0; buffer = placed d buf }
 closing d buf h k =
-    rw (zero-add (length d), check_byte_lem d, ← sets-placed d buf h) (ended (length d) _ (sets buf 0 d) (simp length-sets h) k)
+    rw (zero-add (length d), check_byte_lem d, ← sets_placed d buf h) (ended (length d) _ (sets buf 0 d) (simp length-sets h) k)
 
 pub round_trip : RoundTrip
 round_trip d buf c k h =
     fed_stx c buf (frame_of d)
     ∙ before (sends DLE)
-    (ap (feed (at (Inside NotSeen) 0 0) buf) (frame-bytes d)
+    (ap (feed (at (Inside NotSeen) 0 0) buf) (frame_bytes d)
     ∙ taken d 0 0 buf _ (omega arith) (omega arith)
     ∙ ap (after (replicate (length (doubled d)) nothing)) (closing d buf h k)
     ∙ ap (λ (rs : List Response). record { answers = rs; state = at Rest 0 0; buffer = placed d buf })
-    (two-more (length (doubled d)) (length (frame_of d) - 1) (delivers DLE (length d) ∷ []) (omega (arith, length-frame d))))
+    (two_more (length (doubled d)) (length (frame_of d) - 1) (delivers DLE (length d) ∷ []) (omega (arith, length_frame d))))

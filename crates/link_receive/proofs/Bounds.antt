@@ -21,9 +21,9 @@ module _ (n c b : ℕ) (buf : List ℕ) where
   unfolding store_of no_room
   store_limit h k = simp (lt-leb _ _ h, le-leb _ _ k)
 
-  pub store-room : n < length buf → n < 1024 → store_of n c b buf ≡ storing (Kept (at (Inside NotSeen) (n + 1) c)) (set buf n b)
+  pub store_room : n < length buf → n < 1024 → store_of n c b buf ≡ storing (Kept (at (Inside NotSeen) (n + 1) c)) (set buf n b)
   unfolding store_of no_room
-  store-room h k = simp (lt-leb _ _ h, lt-leb _ _ k)
+  store_room h k = simp (lt-leb _ _ h, lt-leb _ _ k)
 
 module _ (s : LinkState) (e : LinkEvent) (buf : List ℕ) where
   pub receive_beyond : length buf < s.count → receive_of s e buf ≡ with (to (refuses 1) s) buf

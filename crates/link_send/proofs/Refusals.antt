@@ -14,8 +14,8 @@ use Rattle.link_send.specs.declared.Sender.{Sender}
 pub record Sound (s : Sender) (buf : List ℕ) : Type 0 where
   pub connections : (least ≤ s.limits.connections) × (s.limits.connections ≤ most)
   pub blocks : (least ≤ s.limits.blocks) × (s.limits.blocks ≤ most)
-  pub failed-connections : s.failed.connections ≤ s.limits.connections
-  pub failed-blocks : s.failed.blocks ≤ s.limits.blocks
+  pub failed_connections : s.failed.connections ≤ s.limits.connections
+  pub failed_blocks : s.failed.blocks ≤ s.limits.blocks
   pub half : half_against s.phase buf ≡ false
 
 limit : (n : ℕ) → bad_limit n ≡ false → (least ≤ n) × (n ≤ most)
@@ -37,7 +37,7 @@ sound s buf e =
     record {
       connections = limit _ both.0;
       blocks = limit _ both.1;
-      failed-connections = ltb-false _ _ third.1;
-      failed-blocks = ltb-false _ _ fourth.1;
+      failed_connections = ltb-false _ _ third.1;
+      failed_blocks = ltb-false _ _ fourth.1;
       half = fifth.1;
     }

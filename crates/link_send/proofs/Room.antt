@@ -36,30 +36,30 @@ module _ (d buf out : List ℕ) (s : Sender) where
   half_keeps (goes_on r q m c e) short = refl
   half_keeps (stores b c) short = absurd (omega arith)
 
-  heard-keeps : (h : LinkState) (e : LinkEvent) → against h.count buf ≡ false → Keeps (half_of s (receive_of h e buf))
+  heard_keeps : (h : LinkState) (e : LinkEvent) → against h.count buf ≡ false → Keeps (half_of s (receive_of h e buf))
   unfolding receive_of
-  heard-keeps h e agrees = rw agrees (half_keeps (event_effect e h buf))
+  heard_keeps h e agrees = rw agrees (half_keeps (event_effect e h buf))
 
-  receiving-keeps : (h : LinkState) (e : SendEvent) → against h.count buf ≡ false → Keeps (receiving_of e h s buf)
+  receiving_keeps : (h : LinkState) (e : SendEvent) → against h.count buf ≡ false → Keeps (receiving_of e h s buf)
   unfolding receiving_of
-  receiving-keeps h Start agrees = λ short. refl
-  receiving-keeps h (Byte b) agrees = heard-keeps h (heard.Byte b) agrees
-  receiving-keeps h Timer agrees = heard-keeps h heard.Timer agrees
+  receiving_keeps h Start agrees = λ short. refl
+  receiving_keeps h (Byte b) agrees = heard_keeps h (heard.Byte b) agrees
+  receiving_keeps h Timer agrees = heard_keeps h heard.Timer agrees
 
   phase_keeps : (p : SendPhase) (e : SendEvent) → half_against p buf ≡ false → Keeps (in_phase p e s buf)
   phase_keeps Fresh e agrees = λ short. refl
   phase_keeps Opening e agrees = λ short. refl
   phase_keeps Awaiting e agrees = λ short. refl
-  phase_keeps (Receiving h) e agrees = receiving-keeps h e agrees
+  phase_keeps (Receiving h) e agrees = receiving_keeps h e agrees
   phase_keeps Sent e agrees = λ short. refl
   phase_keeps GaveUp e agrees = λ short. refl
 
   -- the output is filled, or refused, and the turn is done, or nothing
-  turn-done : (t : Taken) (bytes : List ℕ) → (length out < length bytes → t.buffer ≡ buf) → {f : Filling} {r : SendReaction} →
+  turn_done : (t : Taken) (bytes : List ℕ) → (length out < length bytes → t.buffer ≡ buf) → {f : Filling} {r : SendReaction} →
       f ≡ fitted bytes out → r ≡ finished f.given t.turn s →
       leaving r t.buffer f.output ≡ (outgoing (fitted bytes out) t s buf).outcome
   unfolding fitted
-  turn-done t bytes keeps {f} {r} filled told =
+  turn_done t bytes keeps {f} {r} filled told =
       ap (λ (q : SendReaction). leaving q t.buffer f.output) told
       ∙ ap (λ (g : Filling). leaving (finished g.given t.turn s) t.buffer g.output) filled
       ∙ pick_by (λ (g : Filling). leaving (finished g.given t.turn s) t.buffer g.output ≡ (outgoing g t s buf).outcome)
@@ -83,4 +83,4 @@ module _ (s : Sender) (e : SendEvent) (d buf out : List ℕ) where
   unfolding send_of turn_of
   send_turn good agrees short same filled told =
       rw (good, le-ltb _ _ short, ← same)
-      (turn-done d buf out s _ _ (subst (Keeps d buf out s) (sym same) (phase_keeps d buf out s s.phase e agrees)) filled told)
+      (turn_done d buf out s _ _ (subst (Keeps d buf out s) (sym same) (phase_keeps d buf out s s.phase e agrees)) filled told)

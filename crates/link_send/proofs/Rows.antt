@@ -21,10 +21,10 @@ module _ (s : Sender) where
   unfolding connection_fails
   connection_last h = simp (le-ltb _ _ h)
 
-  pub block-again : s.failed.blocks + 1 < s.limits.blocks →
+  pub block_again : s.failed.blocks + 1 < s.limits.blocks →
       block_fails s ≡ sending (opening ∷ []) (into s (attempts 0 (s.failed.blocks + 1)) Opening)
   unfolding block_fails
-  block-again h = simp (lt-ltb _ _ h)
+  block_again h = simp (lt-ltb _ _ h)
 
   pub block_last : s.limits.blocks ≤ s.failed.blocks + 1 →
       block_fails s ≡ sending [] (into s (attempts s.failed.connections s.limits.blocks) GaveUp)

@@ -84,8 +84,8 @@ one_attempt m n c h k =
     let e : m - n ≡ suc (m - (n + 1)) = omega arith in
     rw (e, suc-mul) (omega arith)
 
-all-attempts : (m c : ℕ) → 0 < m → 0 < c → 1 + (c - (0 + 1) + (m - (0 + 1)) * c) ≤ m * c
-all-attempts m c h k =
+all_attempts : (m c : ℕ) → 0 < m → 0 < c → 1 + (c - (0 + 1) + (m - (0 + 1)) * c) ≤ m * c
+all_attempts m c h k =
     let e : m ≡ suc (m - (0 + 1)) = omega arith in
     omega (arith, suc-mul (m - (0 + 1)) c, ap (λ (x : ℕ). x * c) e)
 
@@ -100,16 +100,16 @@ module _ (s : Sender) (good : (0 < s.limits.connections) × (0 < s.limits.blocks
       Leaves (s.limits.blocks * s.limits.connections) s.limits.blocks parts (begun s)
   begins o b =
       record {
-        of_openings = rw o (all-attempts s.limits.blocks s.limits.connections good.1 good.0);
+        of_openings = rw o (all_attempts s.limits.blocks s.limits.connections good.1 good.0);
         of_blocks = rw b (omega arith);
         block_left = good.1;
       }
 
-  fresh-leaves : (e : SendEvent) → s.phase ≡ Fresh → TurnLeaves Fresh s (fresh_of e s)
+  fresh_leaves : (e : SendEvent) → s.phase ≡ Fresh → TurnLeaves Fresh s (fresh_of e s)
   unfolding fresh_of openings blocks
-  fresh-leaves Start h = λ _. begins refl refl
-  fresh-leaves (Byte b) h = stays Fresh tt h
-  fresh-leaves Timer h = stays Fresh tt h
+  fresh_leaves Start h = λ _. begins refl refl
+  fresh_leaves (Byte b) h = stays Fresh tt h
+  fresh_leaves Timer h = stays Fresh tt h
 
   module _ (left : s.failed.blocks < s.limits.blocks) where
     connection_leaves : TurnLeaves Opening s (connection_fails s)
@@ -121,22 +121,22 @@ module _ (s : Sender) (good : (0 < s.limits.connections) × (0 < s.limits.blocks
         record { of_openings = omega arith; of_blocks = omega arith; block_left = left })
         (λ none _. record { of_openings = omega arith; of_blocks = omega arith; block_left = tt })
 
-    collision-leaves : (p : Priority) → s.phase ≡ Opening → TurnLeaves Opening s (collision p s)
-    collision-leaves Low h = λ n. absurd (false≢true (sym n))
-    collision-leaves High h = stays Opening left h
+    collision_leaves : (p : Priority) → s.phase ≡ Opening → TurnLeaves Opening s (collision p s)
+    collision_leaves Low h = λ n. absurd (false≢true (sym n))
+    collision_leaves High h = stays Opening left h
 
-    opening-leaves : (e : SendEvent) → s.phase ≡ Opening → TurnLeaves Opening s (opening_of e s)
+    opening_leaves : (e : SendEvent) → s.phase ≡ Opening → TurnLeaves Opening s (opening_of e s)
     unfolding opening_of opening_byte openings blocks
-    opening-leaves Start h = stays Opening left h
-    opening-leaves (Byte b) h =
+    opening_leaves Start h = stays Opening left h
+    opening_leaves (Byte b) h =
         pick_either (TurnLeaves Opening s) (eqb b DLE)
         (λ _. record { of_openings = omega arith; of_blocks = omega arith; block_left = tt })
-        (pick_either (TurnLeaves Opening s) (eqb b STX) (collision-leaves s.priority h) connection_leaves)
-    opening-leaves Timer h = connection_leaves
+        (pick_either (TurnLeaves Opening s) (eqb b STX) (collision_leaves s.priority h) connection_leaves)
+    opening_leaves Timer h = connection_leaves
 
-  block-leaves : TurnLeaves Awaiting s (block_fails s)
+  block_leaves : TurnLeaves Awaiting s (block_fails s)
   unfolding block_fails openings blocks
-  block-leaves =
+  block_leaves =
       pick_by (TurnLeaves Awaiting s) (ltb (s.failed.blocks + 1) s.limits.blocks)
       (λ more _.
       let again = ltb-true _ _ more in
@@ -147,22 +147,22 @@ module _ (s : Sender) (good : (0 < s.limits.connections) × (0 < s.limits.blocks
       })
       (λ none _. record { of_openings = omega arith; of_blocks = omega arith; block_left = tt })
 
-  awaiting-leaves : (e : SendEvent) → s.phase ≡ Awaiting → TurnLeaves Awaiting s (awaiting_of e s)
+  awaiting_leaves : (e : SendEvent) → s.phase ≡ Awaiting → TurnLeaves Awaiting s (awaiting_of e s)
   unfolding awaiting_of awaiting_byte openings blocks
-  awaiting-leaves Start h = stays Awaiting tt h
-  awaiting-leaves (Byte b) h =
+  awaiting_leaves Start h = stays Awaiting tt h
+  awaiting_leaves (Byte b) h =
       pick_either (TurnLeaves Awaiting s) (eqb b DLE)
       (λ _. record { of_openings = omega arith; of_blocks = omega arith; block_left = tt })
-      block-leaves
-  awaiting-leaves Timer h = block-leaves
+      block_leaves
+  awaiting_leaves Timer h = block_leaves
 
   -- the half's answer has no opening and no block in it
-  no-openings : (r : Response) (ps : List Part) → openings (answer_parts r ++ ps) ≡ openings ps
+  no_openings : (r : Response) (ps : List Part) → openings (answer_parts r ++ ps) ≡ openings ps
   unfolding openings
-  no-openings half.nothing ps = refl
-  no-openings (half.sends b) ps = refl
-  no-openings (half.delivers b n) ps = refl
-  no-openings (half.refuses k) ps = refl
+  no_openings half.nothing ps = refl
+  no_openings (half.sends b) ps = refl
+  no_openings (half.delivers b n) ps = refl
+  no_openings (half.refuses k) ps = refl
 
   no_blocks : (r : Response) (ps : List Part) → blocks (answer_parts r ++ ps) ≡ blocks ps
   unfolding blocks
@@ -176,30 +176,30 @@ module _ (s : Sender) (good : (0 < s.limits.connections) × (0 < s.limits.blocks
     unfolding openings blocks
     goes_on r = λ _.
         record {
-          of_openings = omega (arith, no-openings r.response []);
+          of_openings = omega (arith, no_openings r.response []);
           of_blocks = omega (arith, no_blocks r.response []);
           block_left = tt;
         }
 
     phase_leaves : (p : Phase) (r : Reaction) → TurnLeaves (Receiving h) s (at_phase p s r)
     unfolding openings blocks
-    phase_leaves Rest r = λ _. begins (no-openings r.response (opening ∷ [])) (no_blocks r.response (opening ∷ []))
+    phase_leaves Rest r = λ _. begins (no_openings r.response (opening ∷ [])) (no_blocks r.response (opening ∷ []))
     phase_leaves (Inside d) r = goes_on r
     phase_leaves Waiting r = goes_on r
 
-    receiving-leaves : (e : SendEvent) (buf : List ℕ) → s.phase ≡ Receiving h → TurnLeaves (Receiving h) s (receiving_of e h s buf).turn
+    receiving_leaves : (e : SendEvent) (buf : List ℕ) → s.phase ≡ Receiving h → TurnLeaves (Receiving h) s (receiving_of e h s buf).turn
     unfolding receiving_of after_half
-    receiving-leaves Start buf e = stays (Receiving h) tt e
-    receiving-leaves (Byte b) buf e = phase_leaves (receive_of h (heard.Byte b) buf).reaction.next.phase (receive_of h (heard.Byte b) buf).reaction
-    receiving-leaves Timer buf e = phase_leaves (receive_of h heard.Timer buf).reaction.next.phase (receive_of h heard.Timer buf).reaction
+    receiving_leaves Start buf e = stays (Receiving h) tt e
+    receiving_leaves (Byte b) buf e = phase_leaves (receive_of h (heard.Byte b) buf).reaction.next.phase (receive_of h (heard.Byte b) buf).reaction
+    receiving_leaves Timer buf e = phase_leaves (receive_of h heard.Timer buf).reaction.next.phase (receive_of h heard.Timer buf).reaction
 
-  turn-leaves : (p : SendPhase) (e : SendEvent) (buf : List ℕ) → BlockLeftIn p s.limits s.failed → s.phase ≡ p → TurnLeaves p s (in_phase p e s buf).turn
-  turn-leaves Fresh e buf f h = fresh-leaves e h
-  turn-leaves Opening e buf f h = opening-leaves f e h
-  turn-leaves Awaiting e buf f h = awaiting-leaves e h
-  turn-leaves (Receiving l) e buf f h = receiving-leaves l e buf h
-  turn-leaves Sent e buf f h = stays Sent tt h
-  turn-leaves GaveUp e buf f h = stays GaveUp tt h
+  turn_leaves : (p : SendPhase) (e : SendEvent) (buf : List ℕ) → BlockLeftIn p s.limits s.failed → s.phase ≡ p → TurnLeaves p s (in_phase p e s buf).turn
+  turn_leaves Fresh e buf f h = fresh_leaves e h
+  turn_leaves Opening e buf f h = opening_leaves f e h
+  turn_leaves Awaiting e buf f h = awaiting_leaves e h
+  turn_leaves (Receiving l) e buf f h = receiving_leaves l e buf h
+  turn_leaves Sent e buf f h = stays Sent tt h
+  turn_leaves GaveUp e buf f h = stays GaveUp tt h
 
 -- a call, of which a turn is one case
 abbrev CallLeaves : Sender → Sending → Type 0
@@ -207,16 +207,16 @@ CallLeaves s r =
     (is_opening s.phase && is_receiving r.outcome.reaction.next.phase) ≡ false →
     LeavesIn s.phase s r.parts r.outcome.reaction.next
 
-refused-leaves : (s : Sender) → BlockLeft s → LeavesIn s.phase s [] s
+refused_leaves : (s : Sender) → BlockLeft s → LeavesIn s.phase s [] s
 unfolding openings blocks
-refused-leaves s f = record { of_openings = omega arith; of_blocks = omega arith; block_left = f }
+refused_leaves s f = record { of_openings = omega arith; of_blocks = omega arith; block_left = f }
 
 call_leaves : (s : Sender) (c : Call) → BlockLeft s → {r : Sending} → Came s c r → CallLeaves s r
 unfolding turn_of
-call_leaves s c f setup = λ _. refused-leaves s f
-call_leaves s c f long = λ _. refused-leaves s f
-call_leaves s c f (short less) = λ _. refused-leaves s f
-call_leaves s c f (turned ok room) = turn-leaves s (ok.connections.0, ok.blocks.0) s.phase c.event c.buffer f refl
+call_leaves s c f setup = λ _. refused_leaves s f
+call_leaves s c f long = λ _. refused_leaves s f
+call_leaves s c f (short less) = λ _. refused_leaves s f
+call_leaves s c f (turned ok room) = turn_leaves s (ok.connections.0, ok.blocks.0) s.phase c.event c.buffer f refl
 
 -- A call that yields sends no opening and no block.
 abbrev Neither : List Part → Type 0
@@ -269,19 +269,19 @@ call_neither s c (short less) h = neither
 call_neither s c (turned ok room) h = phase_neither s s.phase c.event c.buffer h
 
 -- parts one after the other
-openings-append : (ps qs : List Part) → openings (ps ++ qs) ≡ openings ps + openings qs
+openings_append : (ps qs : List Part) → openings (ps ++ qs) ≡ openings ps + openings qs
 unfolding openings
-openings-append [] qs = omega arith
-openings-append (opening ∷ ps) qs = rw (openings-append ps qs) (omega arith)
-openings-append (answer_byte b ∷ ps) qs = openings-append ps qs
-openings-append (block ∷ ps) qs = openings-append ps qs
+openings_append [] qs = omega arith
+openings_append (opening ∷ ps) qs = rw (openings_append ps qs) (omega arith)
+openings_append (answer_byte b ∷ ps) qs = openings_append ps qs
+openings_append (block ∷ ps) qs = openings_append ps qs
 
-blocks-append : (ps qs : List Part) → blocks (ps ++ qs) ≡ blocks ps + blocks qs
+blocks_append : (ps qs : List Part) → blocks (ps ++ qs) ≡ blocks ps + blocks qs
 unfolding blocks
-blocks-append [] qs = omega arith
-blocks-append (opening ∷ ps) qs = blocks-append ps qs
-blocks-append (answer_byte b ∷ ps) qs = blocks-append ps qs
-blocks-append (block ∷ ps) qs = rw (blocks-append ps qs) (omega arith)
+blocks_append [] qs = omega arith
+blocks_append (opening ∷ ps) qs = blocks_append ps qs
+blocks_append (answer_byte b ∷ ps) qs = blocks_append ps qs
+blocks_append (block ∷ ps) qs = rw (blocks_append ps qs) (omega arith)
 
 -- what goes out before the next yield
 abbrev Within : Sender → List Part → Type 0
@@ -296,7 +296,7 @@ none_within s ps n = rw (append-nil ps, n.0, n.1) (omega arith, omega arith)
 
 one_more : (s next : Sender) (ps qs : List Part) → LeavesIn s.phase s ps next → Within next qs → Within s (ps ++ qs)
 one_more s next ps qs p w =
-    (rw (openings-append ps qs) (omega (arith, p.of_openings, w.0)), rw (blocks-append ps qs) (omega (arith, p.of_blocks, w.1)))
+    (rw (openings_append ps qs) (omega (arith, p.of_openings, w.0)), rw (blocks_append ps qs) (omega (arith, p.of_blocks, w.1)))
 
 within : (cs : List Call) (s : Sender) → BlockLeft s → Within s (until_yield s cs)
 unfolding until_yield
@@ -314,15 +314,15 @@ begins_left : {p : SendPhase} (m f : Attempts) → Begins p → BlockLeftIn p m 
 begins_left m f not_started = tt
 begins_left m f (yielded h) = tt
 
-begins-all : {p : SendPhase} (m f : Attempts) → Begins p → (openings_in p m f ≡ m.connections * m.blocks) × (blocks_in p m f ≡ m.blocks)
-begins-all m f not_started = (mul_comm m.blocks m.connections, refl)
-begins-all m f (yielded h) = (mul_comm m.blocks m.connections, refl)
+begins_all : {p : SendPhase} (m f : Attempts) → Begins p → (openings_in p m f ≡ m.connections * m.blocks) × (blocks_in p m f ≡ m.blocks)
+begins_all m f not_started = (mul_comm m.blocks m.connections, refl)
+begins_all m f (yielded h) = (mul_comm m.blocks m.connections, refl)
 
 pub bounded : Bounded
 bounded =
     record {
-      of_openings = λ s b cs. omega (arith, (begins-all s.limits s.failed b).0, (all_within s b cs).0);
-      of_blocks = λ s b cs. omega (arith, (begins-all s.limits s.failed b).1, (all_within s b cs).1);
+      of_openings = λ s b cs. omega (arith, (begins_all s.limits s.failed b).0, (all_within s b cs).0);
+      of_blocks = λ s b cs. omega (arith, (begins_all s.limits s.failed b).1, (all_within s b cs).1);
     }
   where
     all_within : (s : Sender) → Begins s.phase → (cs : List Call) → Within s (until_yield s cs)

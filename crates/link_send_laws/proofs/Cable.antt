@@ -6,10 +6,10 @@ use Prim.Native.Nat.{ℕ, zero, suc, ◌-◌, ◌≤◌}
 use native.Mathlib.Omega.{arith}
 use lib.ListN.{length, drop, replicate}
 use Rattle.base.specs.Places.{placed}
-use Rattle.base.proofs.Places.{length-placed, take-placed}
+use Rattle.base.proofs.Places.{length_placed, take_placed}
 use Rattle.link_frame.specs.ControlBytes.{STX, DLE}
 use Rattle.link_frame.specs.Frame.{frame_of, max_data}
-use Rattle.link_frame.proofs.Framing.{length-frame}
+use Rattle.link_frame.proofs.Framing.{length_frame}
 use Rattle.link_receive.specs.Receive as half
 use Rattle.link_receive.specs.Receive.{Response, nothing, delivers, at, receive_of}
 use Rattle.link_receive.specs.declared.Dle.TheVariants.{NotSeen}
@@ -89,11 +89,11 @@ module _ (s : Sender) (d own out buf : List ℕ) (check : ℕ) (u : Usable s) (f
   usable : (p : SendPhase) → Usable (in_phase p)
   usable p = record { connections = u.connections; blocks = u.blocks; failed = (omega arith, omega arith) }
 
-  room-opened : length (frame_of d) ≤ length opened
-  room-opened = omega (arith, length-frame d, length-placed (STX ∷ []) out (omega (arith, length-frame d)))
+  room_opened : length (frame_of d) ≤ length opened
+  room_opened = omega (arith, length_frame d, length_placed (STX ∷ []) out (omega (arith, length_frame d)))
 
   room_blocked : length (frame_of d) ≤ length blocked
-  room_blocked = omega (arith, room-opened, length-placed (frame_of d) opened room-opened)
+  room_blocked = omega (arith, room_opened, length_placed (frame_of d) opened room_opened)
 
   abbrev called : SendEvent → List ℕ → Call
   called e o = record { event = e; src = d; buffer = own; output = o }
@@ -132,12 +132,12 @@ module _ (s : Sender) (d own out buf : List ℕ) (check : ℕ) (u : Usable s) (f
   opening_out : send_of (in_phase Opening) (Byte DLE) d own opened ≡ doing (sending (block ∷ []) (in_phase Awaiting)) (called (Byte DLE) opened)
   unfolding opening_of
   opening_out =
-      opening_call s (attempts 0 0) (called (Byte DLE) opened) fits room-opened (usable Opening)
+      opening_call s (attempts 0 0) (called (Byte DLE) opened) fits room_opened (usable Opening)
       ∙ ap (λ (t : Turn). doing t (called (Byte DLE) opened)) (opening_dle (in_phase Opening) DLE refl)
 
-  block-bytes : bytes_of d (block ∷ []) ≡ frame_of d
+  block_bytes : bytes_of d (block ∷ []) ≡ frame_of d
   unfolding bytes_of part_bytes
-  block-bytes = append-nil (frame_of d)
+  block_bytes = append-nil (frame_of d)
 
   to_third : Reaches d second third
   to_third =
@@ -145,8 +145,8 @@ module _ (s : Sender) (d own out buf : List ℕ) (check : ℕ) (u : Usable s) (f
       (subst (λ (c : Cable). Reaches d c third)
       (sym
       (ap (λ (r : Sending). sender_done second [] r.outcome) opening_out
-      ∙ ap (λ (bs : List ℕ). sender_done second [] (record { reaction = record { response = sends (length bs); next = in_phase Awaiting }; buffer = own; output = placed bs opened })) block-bytes
-      ∙ ap (λ (bs : List ℕ). cable Awaiting blocked (at (Inside NotSeen) 0 0) buf (half.sends DLE ∷ []) bs []) (take-placed (frame_of d) opened)))
+      ∙ ap (λ (bs : List ℕ). sender_done second [] (record { reaction = record { response = sends (length bs); next = in_phase Awaiting }; buffer = own; output = placed bs opened })) block_bytes
+      ∙ ap (λ (bs : List ℕ). cable Awaiting blocked (at (Inside NotSeen) 0 0) buf (half.sends DLE ∷ []) bs []) (take_placed (frame_of d) opened)))
       here)
 
   -- the half takes the block: what the round trip says of STX and the frame, without the STX
@@ -156,15 +156,15 @@ module _ (s : Sender) (d own out buf : List ℕ) (check : ℕ) (u : Usable s) (f
   all_fed : after (half.sends DLE ∷ []) block_fed ≡ record { answers = frame_answers d; state = at Rest 0 0; buffer = placed d buf }
   all_fed = sym (fed_stx check buf (frame_of d)) ∙ round_trip d buf check fits place
 
-  answered-once : all_answers block_fed.answers ≡ DLE ∷ []
+  answered_once : all_answers block_fed.answers ≡ DLE ∷ []
   unfolding all_answers bytes_of part_bytes
-  answered-once =
+  answered_once =
       ap (λ (f : Fed). all_answers (drop 1 f.answers)) all_fed ∙ silent (length (frame_of d) - 1) (delivers DLE (length d) ∷ [])
 
   to_fourth : Reaches d third fourth
   to_fourth =
       subst (λ (ts : List ℕ). Reaches d third (cable Awaiting blocked (at Rest 0 0) (placed d buf) (frame_answers d) [] ts))
-      answered-once
+      answered_once
       (subst
       (λ (f : Fed). Reaches d third (cable Awaiting blocked f.state f.buffer f.answers [] (all_answers block_fed.answers)))
       all_fed

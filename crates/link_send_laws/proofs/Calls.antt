@@ -89,10 +89,10 @@ parts_in_output =
     }
 
 -- a call that is not refused does the turn of its phase
-pub turn-next : (s : Sender) (c : Call) {r : Sending} → Came s c r → is_refused r.outcome.reaction.response ≡ false →
+pub turn_next : (s : Sender) (c : Call) {r : Sending} → Came s c r → is_refused r.outcome.reaction.response ≡ false →
     {p : SendPhase} → s.phase ≡ p → r.outcome.reaction.next ≡ (in_phase p c.event s c.buffer).turn.next
 unfolding turn_of
-turn-next s c setup done h = absurd (false≢true (sym done))
-turn-next s c long done h = absurd (false≢true (sym done))
-turn-next s c (short less) done h = absurd (false≢true (sym done))
-turn-next s c (turned ok room) done h = ap (λ (p : SendPhase). (in_phase p c.event s c.buffer).turn.next) h
+turn_next s c setup done h = absurd (false≢true (sym done))
+turn_next s c long done h = absurd (false≢true (sym done))
+turn_next s c (short less) done h = absurd (false≢true (sym done))
+turn_next s c (turned ok room) done h = ap (λ (p : SendPhase). (in_phase p c.event s c.buffer).turn.next) h

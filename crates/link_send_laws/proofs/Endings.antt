@@ -14,23 +14,23 @@ use Rattle.link_send.specs.declared.SendEvent.{SendEvent}
 use Rattle.link_send.specs.declared.SendPhase.{SendPhase}
 use Rattle.link_send.specs.declared.SendPhase.TheVariants.{Fresh, Opening, Awaiting, Receiving, Sent, GaveUp}
 use Rattle.link_send.specs.declared.Sender.{Sender}
-use Rattle.link_send.proofs.Rows.{connection_again, connection_last, block-again, block_last, opening_other, awaiting_dle, awaiting_other}
+use Rattle.link_send.proofs.Rows.{connection_again, connection_last, block_again, block_last, opening_other, awaiting_dle, awaiting_other}
 use Rattle.link_send_laws.specs.Runs.{Call, after_all}
 use Rattle.link_send_laws.specs.Endings as spec
 use Rattle.link_send_laws.specs.Endings.{FailsConnection, FailsBlock, FailedConnections, FailedBlocks, Waits, Quiet, nothing, setup, long, Unmoved, Over, sent, gave_up, Endings}
 use Rattle.link_send_laws.proofs.Calls as calls
-use Rattle.link_send_laws.proofs.Calls.{Came, turned, came, turn-next}
+use Rattle.link_send_laws.proofs.Calls.{Came, turned, came, turn_next}
 use Rattle.link_send_laws.proofs.Limits.{limits_stay}
 
-opening-fails : (s : Sender) {e : SendEvent} → FailsConnection e → opening_of e s ≡ connection_fails s
+opening_fails : (s : Sender) {e : SendEvent} → FailsConnection e → opening_of e s ≡ connection_fails s
 unfolding opening_of
-opening-fails s spec.FailsConnection.timer = refl
-opening-fails s (spec.FailsConnection.byte b d t) = opening_other s b d t
+opening_fails s spec.FailsConnection.timer = refl
+opening_fails s (spec.FailsConnection.byte b d t) = opening_other s b d t
 
-awaiting-fails : (s : Sender) {e : SendEvent} → FailsBlock e → awaiting_of e s ≡ block_fails s
+awaiting_fails : (s : Sender) {e : SendEvent} → FailsBlock e → awaiting_of e s ≡ block_fails s
 unfolding awaiting_of
-awaiting-fails s spec.FailsBlock.timer = refl
-awaiting-fails s (spec.FailsBlock.byte b d) = awaiting_other s b d
+awaiting_fails s spec.FailsBlock.timer = refl
+awaiting_fails s (spec.FailsBlock.byte b d) = awaiting_other s b d
 
 abbrev after : Sender → Call → Sender
 after s c = spec.after s c
@@ -38,10 +38,10 @@ after s c = spec.after s c
 -- one failed attempt, of either kind
 connection_next : (s : Sender) (c : Call) → s.phase ≡ Opening → FailsConnection c.event → spec.NotRefused s c →
     after s c ≡ (connection_fails s).next
-connection_next s c h x done = turn-next s c (came s c) done h ∙ ap (λ (t : Turn). t.next) (opening-fails s x)
+connection_next s c h x done = turn_next s c (came s c) done h ∙ ap (λ (t : Turn). t.next) (opening_fails s x)
 
-block-next : (s : Sender) (c : Call) → s.phase ≡ Awaiting → FailsBlock c.event → spec.NotRefused s c → after s c ≡ (block_fails s).next
-block-next s c h x done = turn-next s c (came s c) done h ∙ ap (λ (t : Turn). t.next) (awaiting-fails s x)
+block_next : (s : Sender) (c : Call) → s.phase ≡ Awaiting → FailsBlock c.event → spec.NotRefused s c → after s c ≡ (block_fails s).next
+block_next s c h x done = turn_next s c (came s c) done h ∙ ap (λ (t : Turn). t.next) (awaiting_fails s x)
 
 -- no more fail
 connections_stay : {n : ℕ} {s : Sender} {cs : List Call} → FailedConnections n s cs → n ≡ 0 → after_all s cs ≡ s
@@ -73,10 +73,10 @@ module _ (o : Sender) where
           more (step ∙ ap (λ (t : Turn). t.next) (connection_again (into o (attempts k b) Opening) (omega arith))) (omega arith) (omega arith)
 
 -- nothing happens after the end
-over-turn : (s : Sender) (e : SendEvent) (buf : List ℕ) {p : SendPhase} → Over p → s.phase ≡ p → turn_of s e buf ≡ with (sending [] s) buf
+over_turn : (s : Sender) (e : SendEvent) (buf : List ℕ) {p : SendPhase} → Over p → s.phase ≡ p → turn_of s e buf ≡ with (sending [] s) buf
 unfolding turn_of
-over-turn s e buf sent h = ap (λ (p : SendPhase). in_phase p e s buf) h
-over-turn s e buf gave_up h = ap (λ (p : SendPhase). in_phase p e s buf) h
+over_turn s e buf sent h = ap (λ (p : SendPhase). in_phase p e s buf) h
+over_turn s e buf gave_up h = ap (λ (p : SendPhase). in_phase p e s buf) h
 
 unmoved : (s : Sender) (c : Call) {r : Sending} → turn_of s c.event c.buffer ≡ with (sending [] s) c.buffer → Came s c r → Unmoved s c r
 unfolding bytes_of placed
@@ -110,14 +110,14 @@ not_waiting : {p : SendPhase} → Waits p → p ≡ GaveUp → ⊥
 not_waiting spec.Waits.opening e = false≢true (ap is_gave_up e)
 not_waiting spec.Waits.awaiting e = false≢true (ap is_gave_up e)
 
-waits-awaiting : {p : SendPhase} → p ≡ Awaiting → Waits p
-waits-awaiting e = subst Waits (sym e) spec.Waits.awaiting
+waits_awaiting : {p : SendPhase} → p ≡ Awaiting → Waits p
+waits_awaiting e = subst Waits (sym e) spec.Waits.awaiting
 
-waits-opening : {p : SendPhase} → p ≡ Opening → Waits p
-waits-opening e = subst Waits (sym e) spec.Waits.opening
+waits_opening : {p : SendPhase} → p ≡ Opening → Waits p
+waits_opening e = subst Waits (sym e) spec.Waits.opening
 
-over-stays : (s : Sender) (c : Call) → s.phase ≡ GaveUp → after s c ≡ s
-over-stays s c h = (unmoved s c (over-turn s c.event c.buffer gave_up h) (came s c)).state
+over_stays : (s : Sender) (c : Call) → s.phase ≡ GaveUp → after s c ≡ s
+over_stays s c h = (unmoved s c (over_turn s c.event c.buffer gave_up h) (came s c)).state
 
 -- a sender that has given up stays so
 given_up : {n : ℕ} {s : Sender} {cs : List Call} → FailedBlocks n s cs → (limit : ℕ) → GaveUpAt limit s → GaveUpAt limit (after_all s cs)
@@ -126,8 +126,8 @@ given_up spec.FailedBlocks.none limit g = g
 given_up (spec.FailedBlocks.stays {s = s} {c = c} {cs = cs} e f) limit g =
     subst (λ (m : Sender). GaveUpAt limit (after_all m cs)) (sym e) (given_up f limit g)
 given_up (spec.FailedBlocks.waits {s = s} {c = c} w e f) limit g =
-    absurd (not_waiting w (ap (λ (m : Sender). m.phase) (over-stays s c g.0) ∙ g.0))
-given_up (spec.FailedBlocks.fails h x r f) limit g = absurd (not_waiting (waits-awaiting h) g.0)
+    absurd (not_waiting w (ap (λ (m : Sender). m.phase) (over_stays s c g.0) ∙ g.0))
+given_up (spec.FailedBlocks.fails h x r f) limit g = absurd (not_waiting (waits_awaiting h) g.0)
 
 -- from k failed blocks on, with n to come
 blocks_fall : {n : ℕ} {s : Sender} {cs : List Call} → FailedBlocks n s cs → Waits s.phase → (k : ℕ) → s.failed.blocks ≡ k →
@@ -140,7 +140,7 @@ blocks_fall (spec.FailedBlocks.waits {s = s} {c = c} {cs = cs} v same f) w k e a
     let l = ap (λ (a : Attempts). a.blocks) (limits_stay s c).limits in
     subst (λ (limit : ℕ). GaveUpAt limit (after_all (after s c) cs)) l (blocks_fall f v k (same ∙ e) (all ∙ sym l) some)
 blocks_fall (spec.FailedBlocks.fails {n} {s} {c} {cs} h x r f) w k e all some =
-    split n (block-next s c h x r) all (λ g. given_up f s.limits.blocks g)
+    split n (block_next s c h x r) all (λ g. given_up f s.limits.blocks g)
     (λ v i j some_left.
     let l = ap (λ (a : Attempts). a.blocks) (limits_stay s c).limits in
     subst (λ (limit : ℕ). GaveUpAt limit (after_all (after s c) cs)) l (blocks_fall f v (k + 1) i (j ∙ sym l) some_left))
@@ -155,9 +155,9 @@ blocks_fall (spec.FailedBlocks.fails {n} {s} {c} {cs} h x r f) w k e all some =
         end
         (subst (GaveUpAt s.limits.blocks) (sym (step ∙ ap (λ (u : Turn). u.next) t)) (refl, refl))
     split (suc m) step sum end more =
-        let t = step ∙ ap (λ (u : Turn). u.next) (block-again s (omega (arith, e, sum))) in
+        let t = step ∙ ap (λ (u : Turn). u.next) (block_again s (omega (arith, e, sum))) in
         more
-        (waits-opening (ap (λ (n : Sender). n.phase) t))
+        (waits_opening (ap (λ (n : Sender). n.phase) t))
         (ap (λ (n : Sender). n.failed.blocks) t ∙ ap (λ (b : ℕ). b + 1) e)
         (omega arith)
         (omega arith)
@@ -173,10 +173,10 @@ endings =
           (omega arith)
           some;
       blocks_fail = λ s cs some w z f. blocks_fall f w 0 z (omega arith) some;
-      block-answered =
+      block_answered =
           λ s c h e done.
-          turn-next s c (came s c) done h
+          turn_next s c (came s c) done h
           ∙ ap (λ (x : SendEvent). (awaiting_of x s).next) e
           ∙ ap (λ (t : Turn). t.next) (awaiting_dle s DLE refl);
-      over = λ s c o. unmoved s c (over-turn s c.event c.buffer o refl) (came s c);
+      over = λ s c o. unmoved s c (over_turn s c.event c.buffer o refl) (came s c);
     }

@@ -44,47 +44,47 @@ module _ (s : Sender) where
       (record { limits = refl; priority = refl })
       (record { limits = refl; priority = refl })
 
-  collision-same : (p : Priority) → Keeps (collision p s)
-  collision-same Low = record { limits = refl; priority = refl }
-  collision-same High = record { limits = refl; priority = refl }
+  collision_same : (p : Priority) → Keeps (collision p s)
+  collision_same Low = record { limits = refl; priority = refl }
+  collision_same High = record { limits = refl; priority = refl }
 
-  fresh-same : (e : SendEvent) → Keeps (fresh_of e s)
+  fresh_same : (e : SendEvent) → Keeps (fresh_of e s)
   unfolding fresh_of
-  fresh-same Start = record { limits = refl; priority = refl }
-  fresh-same (Byte b) = record { limits = refl; priority = refl }
-  fresh-same Timer = record { limits = refl; priority = refl }
+  fresh_same Start = record { limits = refl; priority = refl }
+  fresh_same (Byte b) = record { limits = refl; priority = refl }
+  fresh_same Timer = record { limits = refl; priority = refl }
 
-  opening-same : (e : SendEvent) → Keeps (opening_of e s)
+  opening_same : (e : SendEvent) → Keeps (opening_of e s)
   unfolding opening_of opening_byte
-  opening-same Start = record { limits = refl; priority = refl }
-  opening-same (Byte b) =
+  opening_same Start = record { limits = refl; priority = refl }
+  opening_same (Byte b) =
       pick_either Keeps (eqb b DLE)
       (record { limits = refl; priority = refl })
-      (pick_either Keeps (eqb b STX) (collision-same s.priority) connection_same)
-  opening-same Timer = connection_same
+      (pick_either Keeps (eqb b STX) (collision_same s.priority) connection_same)
+  opening_same Timer = connection_same
 
-  awaiting-same : (e : SendEvent) → Keeps (awaiting_of e s)
+  awaiting_same : (e : SendEvent) → Keeps (awaiting_of e s)
   unfolding awaiting_of awaiting_byte
-  awaiting-same Start = record { limits = refl; priority = refl }
-  awaiting-same (Byte b) = pick_either Keeps (eqb b DLE) (record { limits = refl; priority = refl }) block_same
-  awaiting-same Timer = block_same
+  awaiting_same Start = record { limits = refl; priority = refl }
+  awaiting_same (Byte b) = pick_either Keeps (eqb b DLE) (record { limits = refl; priority = refl }) block_same
+  awaiting_same Timer = block_same
 
-  half-same : (p : Phase) (r : Reaction) → Keeps (at_phase p s r)
-  half-same Rest r = record { limits = refl; priority = refl }
-  half-same (Inside d) r = record { limits = refl; priority = refl }
-  half-same Waiting r = record { limits = refl; priority = refl }
+  half_same : (p : Phase) (r : Reaction) → Keeps (at_phase p s r)
+  half_same Rest r = record { limits = refl; priority = refl }
+  half_same (Inside d) r = record { limits = refl; priority = refl }
+  half_same Waiting r = record { limits = refl; priority = refl }
 
-  receiving-same : (h : LinkState) (e : SendEvent) (buf : List ℕ) → Keeps (receiving_of e h s buf).turn
+  receiving_same : (h : LinkState) (e : SendEvent) (buf : List ℕ) → Keeps (receiving_of e h s buf).turn
   unfolding receiving_of after_half
-  receiving-same h Start buf = record { limits = refl; priority = refl }
-  receiving-same h (Byte b) buf = half-same (receive_of h (heard.Byte b) buf).reaction.next.phase (receive_of h (heard.Byte b) buf).reaction
-  receiving-same h Timer buf = half-same (receive_of h heard.Timer buf).reaction.next.phase (receive_of h heard.Timer buf).reaction
+  receiving_same h Start buf = record { limits = refl; priority = refl }
+  receiving_same h (Byte b) buf = half_same (receive_of h (heard.Byte b) buf).reaction.next.phase (receive_of h (heard.Byte b) buf).reaction
+  receiving_same h Timer buf = half_same (receive_of h heard.Timer buf).reaction.next.phase (receive_of h heard.Timer buf).reaction
 
   phase_same : (p : SendPhase) (e : SendEvent) (buf : List ℕ) → Keeps (in_phase p e s buf).turn
-  phase_same Fresh e buf = fresh-same e
-  phase_same Opening e buf = opening-same e
-  phase_same Awaiting e buf = awaiting-same e
-  phase_same (Receiving h) e buf = receiving-same h e buf
+  phase_same Fresh e buf = fresh_same e
+  phase_same Opening e buf = opening_same e
+  phase_same Awaiting e buf = awaiting_same e
+  phase_same (Receiving h) e buf = receiving_same h e buf
   phase_same Sent e buf = record { limits = refl; priority = refl }
   phase_same GaveUp e buf = record { limits = refl; priority = refl }
 

@@ -13,7 +13,7 @@ use Rattle.base.specs.Filling.{fitted}
 use Rattle.base.proofs.Choice.{pick_either}
 use Rattle.link_frame.specs.ControlBytes.{STX, DLE}
 use Rattle.link_frame.specs.Frame.{frame_of, max_data}
-use Rattle.link_frame.proofs.Framing.{length-frame}
+use Rattle.link_frame.proofs.Framing.{length_frame}
 use Rattle.link_send.specs.Send.{Part, opening, answer_byte, block, part_bytes, bytes_of, Turn, with, into, connection_fails, block_fails, collision, opening_byte, awaiting_byte, fresh_of, opening_of, awaiting_of, turn_of, bad_limit, half_against, misset, Sending, leaving, done, send_of}
 use Rattle.link_send.specs.declared.Attempts.{Attempts}
 use Rattle.link_send.specs.declared.Priority.{Priority}
@@ -59,11 +59,11 @@ module _ (d : List ℕ) where
 
   small_opening : Fits (opening ∷ [])
   unfolding bytes_of part_bytes
-  small_opening = omega (arith, length-frame d)
+  small_opening = omega (arith, length_frame d)
 
   small_answer : (b : ℕ) → Fits (answer_byte b ∷ [])
   unfolding bytes_of part_bytes
-  small_answer b = omega (arith, length-frame d)
+  small_answer b = omega (arith, length_frame d)
 
   small_block : Fits (block ∷ [])
   unfolding bytes_of part_bytes

@@ -59,10 +59,10 @@ module _ (s : Sender) (r : Reaction) where
   goes_on_next (Inside d) away = refl
   goes_on_next Waiting away = refl
 
-  delivery-same : (p : Phase) (n : ℕ) → responding (at_phase p s r).delivery n ≡ responding (delivery_of r.response) n
-  delivery-same Rest n = refl
-  delivery-same (Inside d) n = refl
-  delivery-same Waiting n = refl
+  delivery_same : (p : Phase) (n : ℕ) → responding (at_phase p s r).delivery n ≡ responding (delivery_of r.response) n
+  delivery_same Rest n = refl
+  delivery_same (Inside d) n = refl
+  delivery_same Waiting n = refl
 
 -- a half that was not at rest answers in the event that brings it to rest
 answered : {p : Phase} {n : ℕ} {buf : List ℕ} {o : Outcome} → Effect p n buf o → is_rest p ≡ false → o.reaction.next.phase ≡ Rest → Answers o
@@ -104,7 +104,7 @@ module _ (s : Sender) (h : LinkState) (e : LinkEvent) (d buf out : List ℕ) (i 
         buffer = ap (λ (t : Taken). t.buffer) (yield_turn s h e buf i);
         response =
             ap (λ (t : Turn). responding t.delivery (length (bytes_of d (turn_of s (as_event e) buf).turn.parts))) turn_is
-            ∙ delivery-same s o.reaction o.reaction.next.phase _;
+            ∙ delivery_same s o.reaction o.reaction.next.phase _;
         goes_on =
             λ away.
             record {
@@ -133,9 +133,9 @@ module _ (s : Sender) (d buf out : List ℕ) (h : s.phase ≡ Opening) (low : s.
       receive_agrees (at Rest 0 0) (heard.Byte STX) buf (omega arith) (omega arith)
       ∙ ap (λ (r : Reaction). half.with r buf) (rest_stx STX refl)
 
-  yields-to : turn_of s (Byte STX) buf ≡ with (collision Low s) buf
+  yields_to : turn_of s (Byte STX) buf ≡ with (collision Low s) buf
   unfolding turn_of opening_of
-  yields-to =
+  yields_to =
       ap (λ (p : SendPhase). in_phase p (Byte STX) s buf) h
       ∙ ap (λ (t : Turn). with t buf) (opening_stx s STX refl ∙ ap (λ (p : Priority). collision p s) low)
 
@@ -146,11 +146,11 @@ module _ (s : Sender) (d buf out : List ℕ) (h : s.phase ≡ Opening) (low : s.
   began (calls.Came.short less) done = absurd (false≢true (sym done))
   began (turned ok room) done =
       record {
-        parts = ap (λ (t : Taken). t.turn.parts) yields-to ∙ sym (ap (λ (o : Outcome). answer_parts o.reaction.response) half_opens);
+        parts = ap (λ (t : Taken). t.turn.parts) yields_to ∙ sym (ap (λ (o : Outcome). answer_parts o.reaction.response) half_opens);
         next =
-            ap (λ (t : Taken). t.turn.next) yields-to
+            ap (λ (t : Taken). t.turn.next) yields_to
             ∙ sym (ap (λ (o : Outcome). into s (attempts 0 0) (Receiving o.reaction.next)) half_opens);
-        buffer = ap (λ (t : Taken). t.buffer) yields-to ∙ sym (ap (λ (o : Outcome). o.buffer) half_opens);
+        buffer = ap (λ (t : Taken). t.buffer) yields_to ∙ sym (ap (λ (o : Outcome). o.buffer) half_opens);
       }
 
 pub yield_begins : YieldBegins

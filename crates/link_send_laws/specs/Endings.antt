@@ -77,7 +77,7 @@ pub record Endings : Type 0 where
       FailedBlocks s.limits.blocks s cs →
       ((after_all s cs).phase ≡ GaveUp) × ((after_all s cs).failed.blocks ≡ s.limits.blocks)
   -- a DLE after the block ends in "sent"
-  pub block-answered : (s : Sender) (c : Call) → s.phase ≡ Awaiting → c.event ≡ Byte DLE → NotRefused s c →
+  pub block_answered : (s : Sender) (c : Call) → s.phase ≡ Awaiting → c.event ≡ Byte DLE → NotRefused s c →
       after s c ≡ into s s.failed Sent
   -- after either, each event gets nothing, or 1 or 12, and the state stays
   pub over : (s : Sender) (c : Call) → Over s.phase → Unmoved s c (called_at s c)

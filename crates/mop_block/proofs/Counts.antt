@@ -28,9 +28,9 @@ pub parts_good : {b : List ℕ} → Good b → good_block b ≡ true
 unfolding good_block
 parts_good p = rw (p.zero_in, p.one_end, p.distinct)
 
-pub count-append : (a : ℕ) (xs ys : List ℕ) → count a (xs ++ ys) ≡ count a xs + count a ys
-count-append a [] ys = omega arith
-count-append a (x ∷ xs) ys = rw (count-append a xs ys) (omega arith)
+pub count_append : (a : ℕ) (xs ys : List ℕ) → count a (xs ++ ys) ≡ count a xs + count a ys
+count_append a [] ys = omega arith
+count_append a (x ∷ xs) ys = rw (count_append a xs ys) (omega arith)
 
 pub count_zeros : (a n : ℕ) → count (suc a) (zeros n) ≡ 0
 count_zeros a zero = refl
@@ -41,34 +41,34 @@ has_first : (a : ℕ) (xs : List ℕ) (t : Bool) → has a xs ≡ ltb 0 (count a
 has_first a xs true e = sym (lt-ltb 0 (1 + count a xs) (omega arith))
 has_first a xs false e = rw zero-add e
 
-has-count : (a : ℕ) (xs : List ℕ) → has a xs ≡ ltb 0 (count a xs)
+has_count : (a : ℕ) (xs : List ℕ) → has a xs ≡ ltb 0 (count a xs)
 unfolding has
-has-count a [] = refl
-has-count a (x ∷ xs) = has_first a xs (eqb a x) (has-count a xs)
+has_count a [] = refl
+has_count a (x ∷ xs) = has_first a xs (eqb a x) (has_count a xs)
 
 -- the 00s are no stations
-has-stations : (a : ℕ) (xs : List ℕ) → has (suc a) (stations xs) ≡ has (suc a) xs
+has_stations : (a : ℕ) (xs : List ℕ) → has (suc a) (stations xs) ≡ has (suc a) xs
 unfolding has stations
-has-stations a [] = refl
-has-stations a (zero ∷ xs) = rw (eqb-suc-zero a) (has-stations a xs)
-has-stations a (suc x ∷ xs) = rw (has-stations a xs)
+has_stations a [] = refl
+has_stations a (zero ∷ xs) = rw (eqb-suc-zero a) (has_stations a xs)
+has_stations a (suc x ∷ xs) = rw (has_stations a xs)
 
 absent : (a : ℕ) (xs : List ℕ) → not (has (suc a) (stations xs)) ≡ true → count (suc a) xs ≡ 0
 absent a xs e =
-    let f : has (suc a) xs ≡ false = sym (has-stations a xs) ∙ not-true (has (suc a) (stations xs)) e in
-    let z : count (suc a) xs ≤ 0 = ltb-false 0 (count (suc a) xs) (sym (has-count (suc a) xs) ∙ f) in
+    let f : has (suc a) xs ≡ false = sym (has_stations a xs) ∙ not-true (has (suc a) (stations xs)) e in
+    let z : count (suc a) xs ≤ 0 = ltb-false 0 (count (suc a) xs) (sym (has_count (suc a) xs) ∙ f) in
     omega arith
 
 to_absent : (a : ℕ) (xs : List ℕ) → count (suc a) xs ≡ 0 → has (suc a) (stations xs) ≡ false
-to_absent a xs e = has-stations a xs ∙ has-count (suc a) xs ∙ le-ltb 0 (count (suc a) xs) (omega arith)
+to_absent a xs e = has_stations a xs ∙ has_count (suc a) xs ∙ le-ltb 0 (count (suc a) xs) (omega arith)
 
 -- distinct addresses are those that stand there once
-once-first : (a x : ℕ) (xs : List ℕ) (t : Bool) → eqb (suc a) (suc x) ≡ t → is_address (suc x) ≡ true → count (suc x) xs ≡ 0 →
+once_first : (a x : ℕ) (xs : List ℕ) (t : Bool) → eqb (suc a) (suc x) ≡ t → is_address (suc x) ≡ true → count (suc x) xs ≡ 0 →
     count (suc a) xs ≤ one (is_address (suc a)) → one t + count (suc a) xs ≤ one (is_address (suc a))
-once-first a x xs true e h z o =
+once_first a x xs true e h z o =
     let k : a ≡ x = omega (arith, eqb-true (suc a) (suc x) e) in
     rw (k, z, h) (omega arith)
-once-first a x xs false e h z o = omega arith
+once_first a x xs false e h z o = omega arith
 
 pub distinct_once : (b : List ℕ) → distinct_addresses (stations b) ≡ true → Once b
 unfolding stations distinct_addresses
@@ -77,7 +77,7 @@ distinct_once (zero ∷ xs) h a = rw (eqb-suc-zero a) (omega (arith, distinct_on
 distinct_once (suc x ∷ xs) h a =
     let p = (and-eq-true_iff (is_address (suc x) && not (has (suc x) (stations xs))) (distinct_addresses (stations xs))).0 h in
     let q = (and-eq-true_iff (is_address (suc x)) (not (has (suc x) (stations xs)))).0 p.0 in
-    once-first a x xs (eqb (suc a) (suc x)) refl q.0 (absent x xs q.1) (distinct_once xs p.1 a)
+    once_first a x xs (eqb (suc a) (suc x)) refl q.0 (absent x xs q.1) (distinct_once xs p.1 a)
 
 distinct_first : (x : ℕ) (xs : List ℕ) (t : Bool) → is_address (suc x) ≡ t → 1 + count (suc x) xs ≤ one t → distinct_addresses (stations xs) ≡ true →
     is_address (suc x) && not (has (suc x) (stations xs)) && distinct_addresses (stations xs) ≡ true
@@ -99,11 +99,11 @@ one_bound : (t : Bool) → one t ≤ 1
 one_bound true = omega arith
 one_bound false = omega arith
 
-pub at-most-once : (b : List ℕ) → good_block b ≡ true → (a : ℕ) → count (suc a) b ≤ 1
-at-most-once b g a = omega (arith, good_once b g a, one_bound (is_address (suc a)))
+pub at_most_once : (b : List ℕ) → good_block b ≡ true → (a : ℕ) → count (suc a) b ≤ 1
+at_most_once b g a = omega (arith, good_once b g a, one_bound (is_address (suc a)))
 
 -- in a good block of four the last two are no station twice
 pub not_twice : (w x y z a : ℕ) → good_block (w ∷ x ∷ y ∷ z ∷ []) ≡ true → y ≡ suc a → z ≡ suc a → ⊥
 not_twice w x y z a g e f =
-    let n = at-most-once (w ∷ x ∷ y ∷ z ∷ []) g a in
+    let n = at_most_once (w ∷ x ∷ y ∷ z ∷ []) g a in
     omega (arith, rw (e, f, eq-eqb (suc a) (suc a) refl) at n)

@@ -14,23 +14,23 @@ ends_single zero = refl
 ends_single (suc a) = refl
 
 -- a station in front adds no end
-pub ends-station : (a : ℕ) (xs : List ℕ) → zero_ends (suc a ∷ xs) ≡ zero_ends xs
+pub ends_station : (a : ℕ) (xs : List ℕ) → zero_ends (suc a ∷ xs) ≡ zero_ends xs
 unfolding zero_ends
-ends-station a [] = refl
-ends-station a (x ∷ xs) = refl
+ends_station a [] = refl
+ends_station a (x ∷ xs) = refl
 
 pub ends_full : {xs : List ℕ} → Full xs → (ys : List ℕ) → zero_ends (xs ++ ys) ≡ zero_ends ys
 ends_full nil ys = refl
-ends_full (cons {a = a} {xs = xs} f) ys = ends-station a (xs ++ ys) ∙ ends_full f ys
+ends_full (cons {a = a} {xs = xs} f) ys = ends_station a (xs ++ ys) ∙ ends_full f ys
 
 -- of a run of 00s only the last one can end it
-pub ends-zeros : (n : ℕ) (ys : List ℕ) → zero_ends (0 ∷ (zeros n ++ ys)) ≡ zero_ends (0 ∷ ys)
+pub ends_zeros : (n : ℕ) (ys : List ℕ) → zero_ends (0 ∷ (zeros n ++ ys)) ≡ zero_ends (0 ∷ ys)
 unfolding zero_ends
-ends-zeros zero ys = refl
-ends-zeros (suc n) ys = ends-zeros n ys
+ends_zeros zero ys = refl
+ends_zeros (suc n) ys = ends_zeros n ys
 
-pub ends-run : (n : ℕ) → zero_ends (0 ∷ zeros n) ≡ 0
-ends-run n = rw (← append-nil (zeros n)) (ends-zeros n [] ∙ ends_single 0)
+pub ends_run : (n : ℕ) → zero_ends (0 ∷ zeros n) ≡ 0
+ends_run n = rw (← append-nil (zeros n)) (ends_zeros n [] ∙ ends_single 0)
 
 pub ends_more : (ys : List ℕ) → zero_ends (0 ∷ ys) ≤ 1 + zero_ends ys
 unfolding zero_ends

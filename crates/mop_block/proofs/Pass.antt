@@ -32,25 +32,25 @@ unfolding good_from good_block
 good_start b h = rw (zero-add, ends_ring b h, new_clear (stations b))
 
 -- an entry more
-ends-sum : (ends last x : ℕ) (rest : List ℕ) → ends + zero_ends (last ∷ x ∷ rest) ≡ ends + zero_ends (last ∷ x ∷ []) + zero_ends (x ∷ rest)
-ends-sum ends last x rest = omega (arith, ends_next last x rest)
+ends_sum : (ends last x : ℕ) (rest : List ℕ) → ends + zero_ends (last ∷ x ∷ rest) ≡ ends + zero_ends (last ∷ x ∷ []) + zero_ends (x ∷ rest)
+ends_sum ends last x rest = omega (arith, ends_next last x rest)
 
 take_zero : (zero : Bool) (ends last : ℕ) (seen : List Bool) (rest : List ℕ) →
     good_from zero ends last seen (0 ∷ rest) ≡ good_from true (ends + zero_ends (last ∷ 0 ∷ [])) 0 seen rest
 unfolding good_from has stations
-take_zero zero ends last seen rest = rw (ends-sum ends last 0 rest, or-true zero)
+take_zero zero ends last seen rest = rw (ends_sum ends last 0 rest, or-true zero)
 
 aside : (g t f : Bool) → g && (t && f) ≡ t && (g && f)
 aside true t f = refl
 aside false true f = refl
 aside false false f = refl
 
-take-station : (zero : Bool) (ends last : ℕ) (seen : List Bool) (x : ℕ) (rest : List ℕ) → (x ≡ 0 → ⊥) →
+take_station : (zero : Bool) (ends last : ℕ) (seen : List Bool) (x : ℕ) (rest : List ℕ) → (x ≡ 0 → ⊥) →
     good_from zero ends last seen (x ∷ rest) ≡
     is_address x && not (get_or seen x false) && good_from zero (ends + zero_ends (last ∷ x ∷ [])) x (set seen x true) rest
 unfolding good_from has all_new
-take-station zero ends last seen x rest d =
-    rw (ends-sum ends last x rest, ne_eqb 0 x (λ e. d (sym e)), named x rest d)
+take_station zero ends last seen x rest d =
+    rw (ends_sum ends last x rest, ne_eqb 0 x (λ e. d (sym e)), named x rest d)
     (aside ((zero || has 0 rest) && leb (ends + zero_ends (last ∷ x ∷ []) + zero_ends (x ∷ rest)) 1) (is_address x && not (get_or seen x false))
     (all_new (set seen x true) (stations rest)))
 
@@ -63,11 +63,11 @@ module _ (b : List ℕ) (i : ℕ) (zero : Bool) (ends last : ℕ) (seen : List B
 
     module _ (d : get_or b i 0 ≡ 0 → ⊥) where
       pub pass_refused : is_address (get_or b i 0) && not (get_or seen (get_or b i 0) false) ≡ false → good_from zero ends last seen (drop i b) ≡ false
-      pass_refused e = rw (drop-cons b i 0 h) (take-station zero ends last seen (get_or b i 0) (drop (suc i) b) d ∙ rw e)
+      pass_refused e = rw (drop-cons b i 0 h) (take_station zero ends last seen (get_or b i 0) (drop (suc i) b) d ∙ rw e)
 
       pub pass_station : is_address (get_or b i 0) && not (get_or seen (get_or b i 0) false) ≡ true → good_from zero ends last seen (drop i b) ≡
           good_from zero (ends + zero_ends (last ∷ get_or b i 0 ∷ [])) (get_or b i 0) (set seen (get_or b i 0) true) (drop (i + 1) b)
-      pass_station e = rw (add-one, drop-cons b i 0 h) (take-station zero ends last seen (get_or b i 0) (drop (suc i) b) d ∙ rw e)
+      pass_station e = rw (add-one, drop-cons b i 0 h) (take_station zero ends last seen (get_or b i 0) (drop (suc i) b) d ∙ rw e)
 
   -- and behind the last one
   pub pass_end : length b ≤ i → good_from zero ends last seen (drop i b) ≡ zero && leb ends 1

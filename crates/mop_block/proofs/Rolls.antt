@@ -8,17 +8,17 @@ use lib.ListN.{length, length-append, length-take, length-drop}
 use lib.Seq.{take_at, drop_at}
 use Rattle.mop_block.specs.Block.{rolled, roll_left, roll_right}
 
-pub length-rolled : (k : ℕ) (b : List ℕ) → length (rolled k b) ≡ length b
+pub length_rolled : (k : ℕ) (b : List ℕ) → length (rolled k b) ≡ length b
 unfolding rolled
-length-rolled k b = simp (length-append, length-take, length-drop) (omega arith)
+length_rolled k b = simp (length-append, length-take, length-drop) (omega arith)
 
 pub length_left : (b : List ℕ) → length (roll_left b) ≡ length b
 unfolding roll_left
-length_left b = length-rolled 1 b
+length_left b = length_rolled 1 b
 
 pub length_right : (b : List ℕ) → length (roll_right b) ≡ length b
 unfolding roll_right
-length_right b = length-rolled (length b - 1) b
+length_right b = length_rolled (length b - 1) b
 
 pub left_cons : (x : ℕ) (xs : List ℕ) → roll_left (x ∷ xs) ≡ xs ++ (x ∷ [])
 unfolding roll_left rolled

@@ -14,14 +14,14 @@ use Rattle.mop_block.specs.Block.{stations, zero_ends}
 use Rattle.mop_block.proofs.Ends.{ends_single}
 
 -- whether 00s end between two neighbours
-pub pair-station : (x y : ℕ) → (x ≡ 0 → ⊥) → zero_ends (x ∷ y ∷ []) ≡ 0
+pub pair_station : (x y : ℕ) → (x ≡ 0 → ⊥) → zero_ends (x ∷ y ∷ []) ≡ 0
 unfolding zero_ends
-pair-station zero y d = absurd (d refl)
-pair-station (suc a) y d = ends_single y
+pair_station zero y d = absurd (d refl)
+pair_station (suc a) y d = ends_single y
 
-pub pair-zeros : (x y : ℕ) → x ≡ 0 → y ≡ 0 → zero_ends (x ∷ y ∷ []) ≡ 0
+pub pair_zeros : (x y : ℕ) → x ≡ 0 → y ≡ 0 → zero_ends (x ∷ y ∷ []) ≡ 0
 unfolding zero_ends
-pair-zeros x y e f = rw (e, f)
+pair_zeros x y e f = rw (e, f)
 
 pub pair_end : (x y : ℕ) → x ≡ 0 → (y ≡ 0 → ⊥) → zero_ends (x ∷ y ∷ []) ≡ 1
 unfolding zero_ends
@@ -41,13 +41,13 @@ module _ (b : List ℕ) (i : ℕ) where
     unfolding stations
     zero_next e = rw (add-one, drop-cons b i 0 h, e)
 
-    pub station-next : (get_or b i 0 ≡ 0 → ⊥) → stations (drop i b) ≡ get_or b i 0 ∷ stations (drop (i + 1) b)
-    station-next d = rw (add-one, drop-cons b i 0 h) (named (get_or b i 0) (drop (suc i) b) d)
+    pub station_next : (get_or b i 0 ≡ 0 → ⊥) → stations (drop i b) ≡ get_or b i 0 ∷ stations (drop (i + 1) b)
+    station_next d = rw (add-one, drop-cons b i 0 h) (named (get_or b i 0) (drop (suc i) b) d)
 
     pub somebody : (get_or b i 0 ≡ 0 → ⊥) → ltb 0 (length (stations (drop i b))) ≡ true
-    somebody d = rw (station-next d) (lt-ltb 0 (suc (length (stations (drop (i + 1) b)))) (omega arith))
+    somebody d = rw (station_next d) (lt-ltb 0 (suc (length (stations (drop (i + 1) b)))) (omega arith))
 
   module _ (h : length b ≤ i) where
-    pub stations-end : stations (drop i b) ≡ []
+    pub stations_end : stations (drop i b) ≡ []
     unfolding stations
-    stations-end = rw (drop_of_length-le b h)
+    stations_end = rw (drop_of_length-le b h)

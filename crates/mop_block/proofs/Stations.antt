@@ -19,29 +19,29 @@ pub full_reverse : {xs : List ℕ} → Full xs → Full (reverse xs)
 full_reverse nil = nil
 full_reverse (cons f) = rw reverse-cons (full_append (full_reverse f) (cons nil))
 
-stations-append : {xs : List ℕ} → Full xs → (ys : List ℕ) → stations (xs ++ ys) ≡ xs ++ stations ys
+stations_append : {xs : List ℕ} → Full xs → (ys : List ℕ) → stations (xs ++ ys) ≡ xs ++ stations ys
 unfolding stations
-stations-append nil ys = refl
-stations-append (cons {a = a} f) ys = ap (λ (l : List ℕ). suc a ∷ l) (stations-append f ys)
+stations_append nil ys = refl
+stations_append (cons {a = a} f) ys = ap (λ (l : List ℕ). suc a ∷ l) (stations_append f ys)
 
-stations-zeros : (n : ℕ) (ys : List ℕ) → stations (zeros n ++ ys) ≡ stations ys
+stations_zeros : (n : ℕ) (ys : List ℕ) → stations (zeros n ++ ys) ≡ stations ys
 unfolding stations
-stations-zeros zero ys = refl
-stations-zeros (suc n) ys = stations-zeros n ys
+stations_zeros zero ys = refl
+stations_zeros (suc n) ys = stations_zeros n ys
 
 pub stations_full : {xs : List ℕ} → Full xs → stations xs ≡ xs
 unfolding stations
-stations_full {xs} f = ap stations (sym (append-nil xs)) ∙ stations-append f [] ∙ append-nil xs
+stations_full {xs} f = ap stations (sym (append-nil xs)) ∙ stations_append f [] ∙ append-nil xs
 
-pub stations-spread : {ahead passed : List ℕ} (z : ℕ) → Full ahead → Full passed → stations (spread ahead z passed) ≡ ahead ++ passed
+pub stations_spread : {ahead passed : List ℕ} (z : ℕ) → Full ahead → Full passed → stations (spread ahead z passed) ≡ ahead ++ passed
 unfolding stations
-stations-spread {ahead} {passed} z f g =
-    rw (stations-append f (0 ∷ (zeros z ++ passed)), stations-zeros z passed, stations_full g)
+stations_spread {ahead} {passed} z f g =
+    rw (stations_append f (0 ∷ (zeros z ++ passed)), stations_zeros z passed, stations_full g)
 
-pub stations-returned : {ahead : List ℕ} (z : ℕ) → Full ahead → stations (returned ahead z) ≡ ahead
+pub stations_returned : {ahead : List ℕ} (z : ℕ) → Full ahead → stations (returned ahead z) ≡ ahead
 unfolding stations
-stations-returned {ahead} z f =
-    rw (stations-append f (zeros z), ← append-nil (zeros z), stations-zeros z [], append-nil ahead)
+stations_returned {ahead} z f =
+    rw (stations_append f (zeros z), ← append-nil (zeros z), stations_zeros z [], append-nil ahead)
 
 -- a block with a 00 names fewer stations than it has entries
 stations_bound : (b : List ℕ) → length (stations b) ≤ length b

@@ -11,8 +11,8 @@ use Rattle.mop_block.specs.Block.{is_address, has, zero_ends, around, first}
 use Rattle.mop_block.specs.Zipper.{zeros, spread, returned, Full, nil, cons, one, count, Once, Zipper}
 use Rattle.mop_block.specs.Zipper.{HasView, ViewIsGood, ReturnedIsGood, LeftMoves, RightMoves, RightReturns}
 use Rattle.mop_block.proofs.Rolls.{left_cons, right_snoc}
-use Rattle.mop_block.proofs.Counts.{good_parts, parts_good, count-append, count_zeros, good_once, once_distinct}
-use Rattle.mop_block.proofs.Ends.{ends_single, ends-station, ends_full, ends-zeros, ends-run, ends_more}
+use Rattle.mop_block.proofs.Counts.{good_parts, parts_good, count_append, count_zeros, good_once, once_distinct}
+use Rattle.mop_block.proofs.Ends.{ends_single, ends_station, ends_full, ends_zeros, ends_run, ends_more}
 
 -- the rolls
 pub left_moves : LeftMoves
@@ -35,63 +35,63 @@ right_returns ahead z = rw (last_zero ahead z, right_snoc)
 
 -- the same stations in another order
 module _ (ahead : List ℕ) (z : ℕ) (passed : List ℕ) where
-  count-spread : (a : ℕ) → count (suc a) (spread ahead z passed) ≡ count (suc a) (passed ++ ahead)
-  count-spread a = simp (count-append, eqb-suc-zero, count_zeros) (omega arith)
+  count_spread : (a : ℕ) → count (suc a) (spread ahead z passed) ≡ count (suc a) (passed ++ ahead)
+  count_spread a = simp (count_append, eqb-suc-zero, count_zeros) (omega arith)
 
-  pub once-spread : Once (passed ++ ahead) → Once (spread ahead z passed)
-  once-spread o a = rw (count-spread a) (o a)
+  pub once_spread : Once (passed ++ ahead) → Once (spread ahead z passed)
+  once_spread o a = rw (count_spread a) (o a)
 
-  pub once-parts : {b : List ℕ} → b ≡ spread ahead z passed → Once b → Once (passed ++ ahead)
-  once-parts e o a = subst (λ (n : ℕ). n ≤ one (is_address (suc a))) (ap (count (suc a)) e ∙ count-spread a) (o a)
+  pub once_parts : {b : List ℕ} → b ≡ spread ahead z passed → Once b → Once (passed ++ ahead)
+  once_parts e o a = subst (λ (n : ℕ). n ≤ one (is_address (suc a))) (ap (count (suc a)) e ∙ count_spread a) (o a)
 
-count-returned : (a : ℕ) (ahead : List ℕ) (z : ℕ) → count (suc a) (returned ahead z) ≡ count (suc a) ahead
-count-returned a ahead z = simp (count-append, eqb-suc-zero, count_zeros) (omega arith)
+count_returned : (a : ℕ) (ahead : List ℕ) (z : ℕ) → count (suc a) (returned ahead z) ≡ count (suc a) ahead
+count_returned a ahead z = simp (count_append, eqb-suc-zero, count_zeros) (omega arith)
 
 -- a block of such parts is good
-has-behind : (xs ys : List ℕ) → has 0 (xs ++ (0 ∷ ys)) ≡ true
+has_behind : (xs ys : List ℕ) → has 0 (xs ++ (0 ∷ ys)) ≡ true
 unfolding has
-has-behind [] ys = refl
-has-behind (x ∷ xs) ys = rw (has-behind xs ys) (or-true (eqb 0 x))
+has_behind [] ys = refl
+has_behind (x ∷ xs) ys = rw (has_behind xs ys) (or-true (eqb 0 x))
 
 -- around the ring, the first entry comes behind the passed stations
-around-parts : (ahead : List ℕ) (z : ℕ) (passed : List ℕ) →
+around_parts : (ahead : List ℕ) (z : ℕ) (passed : List ℕ) →
     around (spread ahead z passed) ≡ ahead ++ (0 ∷ (zeros z ++ (passed ++ (first (spread ahead z passed) ∷ []))))
 unfolding around first
-around-parts [] z passed = simp append_assoc
-around-parts (x ∷ xs) z passed = simp append_assoc
+around_parts [] z passed = simp append_assoc
+around_parts (x ∷ xs) z passed = simp append_assoc
 
 -- 00s, then stations, then what has no end
 one_end : {xs : List ℕ} → Full xs → (z : ℕ) (ys : List ℕ) → zero_ends ys ≡ 0 → zero_ends (0 ∷ (zeros z ++ (xs ++ ys))) ≤ 1
-one_end {xs} f z ys e = omega (arith, ends-zeros z (xs ++ ys), ends_more (xs ++ ys), ends_full f ys)
+one_end {xs} f z ys e = omega (arith, ends_zeros z (xs ++ ys), ends_more (xs ++ ys), ends_full f ys)
 
-around-spread : (ahead : List ℕ) (z : ℕ) (passed : List ℕ) → Full ahead → Full passed → zero_ends (around (spread ahead z passed)) ≤ 1
-around-spread ahead z passed f g =
+around_spread : (ahead : List ℕ) (z : ℕ) (passed : List ℕ) → Full ahead → Full passed → zero_ends (around (spread ahead z passed)) ≤ 1
+around_spread ahead z passed f g =
     let x = first (spread ahead z passed) in
-    rw (around-parts ahead z passed, ends_full f (0 ∷ (zeros z ++ (passed ++ (x ∷ [])))))
+    rw (around_parts ahead z passed, ends_full f (0 ∷ (zeros z ++ (passed ++ (x ∷ [])))))
     (one_end g z (x ∷ []) (ends_single x))
 
 pub view_is_good : ViewIsGood
 view_is_good ahead z passed f g o =
     parts_good
     (record {
-      zero_in = has-behind ahead (zeros z ++ passed);
-      one_end = le-leb _ _ (around-spread ahead z passed f g);
-      distinct = once_distinct (spread ahead z passed) (once-spread ahead z passed o);
+      zero_in = has_behind ahead (zeros z ++ passed);
+      one_end = le-leb _ _ (around_spread ahead z passed f g);
+      distinct = once_distinct (spread ahead z passed) (once_spread ahead z passed o);
     })
 
-around-returned : (ahead : List ℕ) (z : ℕ) → Full ahead → zero_ends (around (returned ahead z)) ≤ 1
+around_returned : (ahead : List ℕ) (z : ℕ) → Full ahead → zero_ends (around (returned ahead z)) ≤ 1
 unfolding around
-around-returned ahead z f =
+around_returned ahead z f =
     let e : returned ahead z ++ (0 ∷ []) ≡ 0 ∷ (ahead ++ (zeros (suc z))) = rw (zeros_snoc z) (simp append_assoc) in
-    rw e (one_end f 0 (zeros (suc z)) (ends-run z))
+    rw e (one_end f 0 (zeros (suc z)) (ends_run z))
 
 pub returned_is_good : ReturnedIsGood
 returned_is_good ahead z f o =
     parts_good
     (record {
-      zero_in = has-behind [] (ahead ++ zeros z);
-      one_end = le-leb _ _ (around-returned ahead z f);
-      distinct = once_distinct (returned ahead z) (λ a. rw (count-returned a ahead z) (o a));
+      zero_in = has_behind [] (ahead ++ zeros z);
+      one_end = le-leb _ _ (around_returned ahead z f);
+      distinct = once_distinct (returned ahead z) (λ a. rw (count_returned a ahead z) (o a));
     })
 
 -- what is behind the first 00: more of them, then stations
@@ -118,8 +118,8 @@ zero_first g = record {
   full_passed = g.full_passed;
 }
 
-gap-first : {ys : List ℕ} → Gap ys → Parts (0 ∷ ys)
-gap-first g = record {
+gap_first : {ys : List ℕ} → Gap ys → Parts (0 ∷ ys)
+gap_first g = record {
   ahead = [];
   gap = g.gap;
   passed = g.passed;
@@ -128,8 +128,8 @@ gap-first g = record {
   full_passed = g.full_passed;
 }
 
-station-first : (x : ℕ) {ys : List ℕ} → Parts ys → Parts (suc x ∷ ys)
-station-first x p = record {
+station_first : (x : ℕ) {ys : List ℕ} → Parts ys → Parts (suc x ∷ ys)
+station_first x p = record {
   ahead = suc x ∷ p.ahead;
   gap = p.gap;
   passed = p.passed;
@@ -149,7 +149,7 @@ module _ (a : ℕ) where
   no_end : (ys : List ℕ) → zero_ends (ys ++ (suc a ∷ [])) ≤ 0 → Full ys
   no_end [] e = nil
   no_end (zero ∷ ys) e = absurd (omega (arith, some_end ys))
-  no_end (suc x ∷ ys) e = cons (no_end ys (omega (arith, ends-station x (ys ++ (suc a ∷ [])))))
+  no_end (suc x ∷ ys) e = cons (no_end ys (omega (arith, ends_station x (ys ++ (suc a ∷ [])))))
 
   behind : (ys : List ℕ) → zero_ends (0 ∷ (ys ++ (suc a ∷ []))) ≤ 1 → Gap ys
   unfolding zero_ends
@@ -160,9 +160,9 @@ module _ (a : ℕ) where
   parted : (xs : List ℕ) → has 0 xs ≡ true → zero_ends (xs ++ (suc a ∷ [])) ≤ 1 → Parts xs
   unfolding has
   parted [] h e = absurd (false≢true h)
-  parted (zero ∷ ys) h e = gap-first (behind ys e)
+  parted (zero ∷ ys) h e = gap_first (behind ys e)
   parted (suc x ∷ ys) h e =
-      station-first x (parted ys (rw (eqb-zero-suc x) at h) (omega (arith, ends-station x (ys ++ (suc a ∷ [])))))
+      station_first x (parted ys (rw (eqb-zero-suc x) at h) (omega (arith, ends_station x (ys ++ (suc a ∷ [])))))
 
 viewed : (a : ℕ) (xs : List ℕ) → Once (suc a ∷ xs) → Parts xs → Zipper (suc a ∷ xs)
 viewed a xs o p =
@@ -175,7 +175,7 @@ viewed a xs o p =
       is = e;
       full_ahead = p.full_ahead;
       full_passed = p.full_passed;
-      once = once-parts (suc a ∷ p.ahead) p.gap p.passed e o;
+      once = once_parts (suc a ∷ p.ahead) p.gap p.passed e o;
     }
 
 pub has_view : HasView
@@ -185,5 +185,5 @@ has_view (zero ∷ xs) g d = absurd (d refl)
 has_view (suc a ∷ xs) g d =
     let p = good_parts (suc a ∷ xs) g in
     let m = leb-true (zero_ends (around (suc a ∷ xs))) 1 p.one_end in
-    let n : zero_ends (xs ++ (suc a ∷ [])) ≤ 1 = omega (arith, m, ends-station a (xs ++ (suc a ∷ []))) in
+    let n : zero_ends (xs ++ (suc a ∷ [])) ≤ 1 = omega (arith, m, ends_station a (xs ++ (suc a ∷ []))) in
     viewed a xs (good_once (suc a ∷ xs) g) (parted a xs (rw (eqb-zero-suc a) at p.zero_in) n)

@@ -13,17 +13,17 @@ use Rattle.base.specs.Choice.{pick}
 use Rattle.base.specs.Words.{high_byte, low_byte, bytes_of}
 use Rattle.base.proofs.Tests.{neither}
 use Rattle.base.specs.Filling.{filled, refused, Filling, denied, written, fitted}
-use Rattle.base.proofs.Places.{take-sets, take-placed}
+use Rattle.base.proofs.Places.{take_sets, take_placed}
 use Rattle.mop_block.specs.Zipper.{zeros}
 use Rattle.mop_header.specs.Header.{head, header_length, new_control}
 use Rattle.mop_header.specs.declared.Function.TheVariants.{Request}
 use Rattle.mop_header.specs.declared.Form.TheVariants.{Standard, Extended}
 use Rattle.mop_header.proofs.Lengths.{length_header}
-use Rattle.mop_header.proofs.Writing.{length-telegram}
+use Rattle.mop_header.proofs.Writing.{length_telegram}
 use Rattle.mop_body.specs.Body.{request_body}
 use Rattle.mop_body.proofs.Bodies.{length_request_body}
 use Rattle.mop_centre.specs.Request.{max_route, good_route, request_head, max_run, request_telegram, requesting, max_request, RequestBound}
-use Rattle.mop_centre.proofs.Routes.{Route, route-parts, standard_head, extended_head}
+use Rattle.mop_centre.proofs.Routes.{Route, route_parts, standard_head, extended_head}
 
 -- six bytes and the values behind them, in the first places
 pub body_stored : (rStart rCount wStart : ℕ) (values rest : List ℕ) → 2 * length values ≤ length rest →
@@ -35,7 +35,7 @@ body_stored rStart rCount wStart values rest h =
     let long = length_request_body rStart rCount wStart values in
     let first = high_byte rStart ∷ low_byte rStart ∷ rCount ∷ high_byte wStart ∷ low_byte wStart ∷ length values ∷ rest in
     subst (λ (n : ℕ). take n (sets first 6 (bytes_of values)) ≡ request_body rStart rCount wStart values) long
-    (take-sets (request_body rStart rCount wStart values) first (omega arith))
+    (take_sets (request_body rStart rCount wStart values) first (omega arith))
 
 module _ (route : List ℕ) (rStart rCount wStart : ℕ) (values out : List ℕ) where
   pub bad_route : good_route route ≡ false → requesting route rStart rCount wStart values out ≡ denied 5 out
@@ -43,26 +43,26 @@ module _ (route : List ℕ) (rStart rCount wStart : ℕ) (values out : List ℕ)
   bad_route e = rw e
 
   module _ (good : good_route route ≡ true) where
-    pub long-read : max_run < rCount → requesting route rStart rCount wStart values out ≡ denied 12 out
+    pub long_read : max_run < rCount → requesting route rStart rCount wStart values out ≡ denied 12 out
     unfolding requesting
-    long-read h = rw (good, lt-ltb max_run rCount h)
+    long_read h = rw (good, lt-ltb max_run rCount h)
 
-    pub long-write : max_run < length values → requesting route rStart rCount wStart values out ≡ denied 12 out
+    pub long_write : max_run < length values → requesting route rStart rCount wStart values out ≡ denied 12 out
     unfolding requesting
-    long-write h = rw (good, lt-ltb max_run (length values) h, or-true (ltb max_run rCount))
+    long_write h = rw (good, lt-ltb max_run (length values) h, or-true (ltb max_run rCount))
 
-    pub request-fitted : rCount ≤ max_run → length values ≤ max_run →
+    pub request_fitted : rCount ≤ max_run → length values ≤ max_run →
         requesting route rStart rCount wStart values out ≡ fitted (request_telegram route rStart rCount wStart values) out
     unfolding requesting
-    request-fitted h k = rw (good, le-ltb max_run rCount h, le-ltb max_run (length values) k)
+    request_fitted h k = rw (good, le-ltb max_run rCount h, le-ltb max_run (length values) k)
 
 -- a call that gives a length was refused by no test
 module _ (out : List ℕ) (n : ℕ) where
-  refused-filled : (k : ℕ) → refused k ≡ filled n → ⊥
-  refused-filled k e = let z : ◌≡◌ {A = ℕ} 0 1 = cc in omega arith
+  refused_filled : (k : ℕ) → refused k ≡ filled n → ⊥
+  refused_filled k e = let z : ◌≡◌ {A = ℕ} 0 1 = cc in omega arith
 
   passed : (t : Bool) (k : ℕ) (x : Filling) → (pick t (denied k out) x).given ≡ filled n → (t ≡ false) × (x.given ≡ filled n)
-  passed true k x e = absurd (refused-filled k e)
+  passed true k x e = absurd (refused_filled k e)
   passed false k x e = (refl, e)
 
 same_length : (a n : ℕ) → filled a ≡ filled n → a ≡ n
@@ -87,10 +87,10 @@ module _ (route : List ℕ) (rStart rCount wStart : ℕ) (values out : List ℕ)
       let few = neither (ltb max_run rCount) (ltb max_run (length values)) q.0 in
       let long : length telegram ≡ n = same_length (length telegram) n r.1 in
       record {
-        good = route-parts route good;
+        good = route_parts route good;
         few_written = ltb-false max_run (length values) few.1;
         long = long;
-        bytes = rw (good, q.0, r.0, ← long) (take-placed telegram out);
+        bytes = rw (good, q.0, r.0, ← long) (take_placed telegram out);
       }
 
 -- its length: a header of six bytes, or of eight and the stations
@@ -107,14 +107,14 @@ module _ (route : List ℕ) where
       let h = head Request new_control (Extended 0xEF) (route ++ (0 ∷ [])) in
       rw (extended_head route (leb-false (length route) 3 e)) (omega (arith, length_header h, length-append route (0 ∷ [])))
 
-pub request-most : (route : List ℕ) (rStart rCount wStart : ℕ) (values : List ℕ) → Route route → length values ≤ max_run →
+pub request_most : (route : List ℕ) (rStart rCount wStart : ℕ) (values : List ℕ) → Route route → length values ≤ max_run →
     length (request_telegram route rStart rCount wStart values) ≤ max_request
 unfolding request_telegram
-request-most route rStart rCount wStart values r few =
+request_most route rStart rCount wStart values r few =
     let body = request_body rStart rCount wStart values in
     omega (
       arith,
-      length-telegram (request_head route) body,
+      length_telegram (request_head route) body,
       head_by route r.most (leb (length route) 3) refl,
       length_request_body rStart rCount wStart values,
     )
@@ -122,4 +122,4 @@ request-most route rStart rCount wStart values r few =
 pub request_bound : RequestBound
 request_bound route rStart rCount wStart values out n e =
     let w = wrote route rStart rCount wStart values out n e in
-    omega (arith, w.long, request-most route rStart rCount wStart values w.good w.few_written)
+    omega (arith, w.long, request_most route rStart rCount wStart values w.good w.few_written)

@@ -6,17 +6,17 @@ use Prim.Native.Nat.{ℕ, ◌+◌, ◌≤◌}
 use native.Mathlib.Omega.{arith}
 use lib.ListN.{length}
 use Rattle.mop_block.specs.Block.{first, roll_left, roll_right}
-use Rattle.mop_block.proofs.Rolls.{length-rolled, length_left, length_right}
+use Rattle.mop_block.proofs.Rolls.{length_rolled, length_left, length_right}
 use Rattle.mop_header.specs.Header.{Head, entries, head_of, block_start, address_bytes, header_bytes, header_length, mark_byte, with_mark, remarked, rolled_left, rolled_right, as_reply, sent_back}
 use Rattle.mop_header.specs.declared.Header.{Header}
 use Rattle.mop_header.specs.declared.Form.{Form}
 use Rattle.mop_header.specs.declared.Form.TheVariants.{Standard, Extended}
-use Rattle.mop_header.proofs.Turns.{length-entries}
+use Rattle.mop_header.proofs.Turns.{length_entries}
 
 -- at most seven bytes stand before the block
-pub start-most : (form : Form) → block_start form ≤ 7
-start-most Standard = omega arith
-start-most (Extended m) = omega arith
+pub start_most : (form : Form) → block_start form ≤ 7
+start_most Standard = omega arith
+start_most (Extended m) = omega arith
 
 -- the bytes of a header with a block of so many entries
 abbrev pub header_room : Form → ℕ → ℕ
@@ -31,44 +31,44 @@ pub length_header : (h : Head) → header_length h ≡ header_room h.form (lengt
 length_header h = room_by h h.form refl
 
 -- remarking and rolling keep the length
-length-address : (m : Form) (b d : List ℕ) → length b ≡ length d → length (address_bytes m b) ≡ length (address_bytes m d)
+length_address : (m : Form) (b d : List ℕ) → length b ≡ length d → length (address_bytes m b) ≡ length (address_bytes m d)
 unfolding address_bytes
-length-address Standard b d e = e
-length-address (Extended m) b d e = omega arith
+length_address Standard b d e = e
+length_address (Extended m) b d e = omega arith
 
-length-with : (m : Form) (k : ℕ) (b : List ℕ) → length (address_bytes (with_mark m k) b) ≡ length (address_bytes m b)
+length_with : (m : Form) (k : ℕ) (b : List ℕ) → length (address_bytes (with_mark m k) b) ≡ length (address_bytes m b)
 unfolding address_bytes with_mark
-length-with Standard k b = refl
-length-with (Extended m) k b = refl
+length_with Standard k b = refl
+length_with (Extended m) k b = refl
 
 module _ (h : Head) where
-  pub length-remarked : header_length (remarked h) ≡ header_length h
+  pub length_remarked : header_length (remarked h) ≡ header_length h
   unfolding header_length header_bytes remarked
-  length-remarked = rw (length-with h.form (mark_byte h.function (first h.block)) h.block)
+  length_remarked = rw (length_with h.form (mark_byte h.function (first h.block)) h.block)
 
   pub length_rolled_left : header_length (rolled_left h) ≡ header_length h
   unfolding header_length header_bytes rolled_left
-  length_rolled_left = rw (length-address h.form (roll_left h.block) h.block (length_left h.block))
+  length_rolled_left = rw (length_address h.form (roll_left h.block) h.block (length_left h.block))
 
   pub length_rolled_right : header_length (rolled_right h) ≡ header_length h
   unfolding header_length header_bytes rolled_right
-  length_rolled_right = rw (length-address h.form (roll_right h.block) h.block (length_right h.block))
+  length_rolled_right = rw (length_address h.form (roll_right h.block) h.block (length_right h.block))
 
   pub length_as_reply : header_length (as_reply h) ≡ header_length h
   unfolding as_reply header_length header_bytes
   length_as_reply = refl
 
-pub length-sent-back : (h : Head) → header_length (sent_back h) ≡ header_length h
+pub length_sent_back : (h : Head) → header_length (sent_back h) ≡ header_length h
 unfolding sent_back
-length-sent-back h = length-remarked (rolled_right h) ∙ length_rolled_right h
+length_sent_back h = length_remarked (rolled_right h) ∙ length_rolled_right h
 
 -- a header of the code has as many entries as it counts, whatever slice stands beside it
 module _ (h : Header) (slice : List ℕ) where
-  pub length-block : length (head_of h slice).block ≡ h.count
-  length-block = length-rolled h.turn (entries h.count slice) ∙ length-entries h.count slice
+  pub length_block : length (head_of h slice).block ≡ h.count
+  length_block = length_rolled h.turn (entries h.count slice) ∙ length_entries h.count slice
 
   pub counted : header_length (head_of h slice) ≡ header_room h.form h.count
-  counted = length_header (head_of h slice) ∙ rw length-block
+  counted = length_header (head_of h slice) ∙ rw length_block
 
   -- the block begins before the header ends
   pub start_within : {n : ℕ} → n ≡ block_start h.form → n ≤ header_length (head_of h slice)

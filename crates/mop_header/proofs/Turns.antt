@@ -11,9 +11,9 @@ use lib.Dec.{ltb}
 use lib.ListN.{length, get_or, set, take, drop, drop_of_length-le, length-drop, get_or-append, get_or-eq_default}
 use lib.Seq.{sets, drop-cons, take-suc, take_all, get_or-append-add, get_or-drop, get_or-take}
 use Rattle.base.specs.Choice.{pick}
-use Rattle.base.proofs.Places.{sets-append}
+use Rattle.base.proofs.Places.{sets_append}
 use Rattle.mop_block.specs.Block.{rolled, roll_left, roll_right}
-use Rattle.mop_block.proofs.Rolls.{length-rolled, left_cons, right_left}
+use Rattle.mop_block.proofs.Rolls.{length_rolled, left_cons, right_left}
 use Rattle.mop_header.specs.Header.{Head, entries}
 use Rattle.mop_header.specs.Private.Places.{first_place}
 
@@ -23,29 +23,29 @@ for_each p = λ i slice. p slice i
 pub at_slice : {f g : List ℕ → Head} → f ≡ g → (slice : List ℕ) → f slice ≡ g slice
 at_slice e slice = ap (λ (h : List ℕ → Head). h slice) e
 
-pub length-entries : (n : ℕ) (l : List ℕ) → length (entries n l) ≡ n
+pub length_entries : (n : ℕ) (l : List ℕ) → length (entries n l) ≡ n
 unfolding entries
-length-entries zero l = refl
-length-entries (suc n) l = ap suc (length-entries n (drop 1 l))
+length_entries zero l = refl
+length_entries (suc n) l = ap suc (length_entries n (drop 1 l))
 
-pub entries-take : (n : ℕ) (l : List ℕ) → n ≤ length l → entries n l ≡ take n l
+pub entries_take : (n : ℕ) (l : List ℕ) → n ≤ length l → entries n l ≡ take n l
 unfolding entries
-entries-take zero l h = refl
-entries-take (suc n) [] h = absurd (omega arith)
-entries-take (suc n) (x ∷ l) h = ap (λ (m : List ℕ). x ∷ m) (entries-take n l (omega arith))
+entries_take zero l h = refl
+entries_take (suc n) [] h = absurd (omega arith)
+entries_take (suc n) (x ∷ l) h = ap (λ (m : List ℕ). x ∷ m) (entries_take n l (omega arith))
 
 -- a list, whatever stands behind it
-pub own-entries : (b rest : List ℕ) → entries (length b) (b ++ rest) ≡ b
+pub own_entries : (b rest : List ℕ) → entries (length b) (b ++ rest) ≡ b
 unfolding entries
-own-entries [] rest = refl
-own-entries (x ∷ b) rest = ap (λ (l : List ℕ). x ∷ l) (own-entries b rest)
+own_entries [] rest = refl
+own_entries (x ∷ b) rest = ap (λ (l : List ℕ). x ∷ l) (own_entries b rest)
 
 get_d_tail : (l : List ℕ) (i : ℕ) → get_or (drop 1 l) i 0 ≡ get_or l (suc i) 0
 get_d_tail [] i = refl
 get_d_tail (x ∷ l) i = refl
 
-pub all-entries : (b : List ℕ) → entries (length b) b ≡ b
-all-entries b = ap (entries (length b)) (sym (append-nil b)) ∙ own-entries b []
+pub all_entries : (b : List ℕ) → entries (length b) b ≡ b
+all_entries b = ap (entries (length b)) (sym (append-nil b)) ∙ own_entries b []
 
 pub entry_of : (n : ℕ) (l : List ℕ) (i : ℕ) → i < n → get_or (entries n l) i 0 ≡ get_or l i 0
 unfolding entries
@@ -62,19 +62,19 @@ unfolding rolled
 rolled_beyond k b h = rw (drop_of_length-le b {i = k} h, take_all k b h)
 
 module _ (b : List ℕ) (p : ℕ) (within : p < length b) where
-  rolled-at : rolled p b ≡ get_or b p 0 ∷ (drop (p + 1) b ++ take p b)
+  rolled_at : rolled p b ≡ get_or b p 0 ∷ (drop (p + 1) b ++ take p b)
   unfolding rolled
-  rolled-at = rw (add-one p, drop-cons b p 0 within)
+  rolled_at = rw (add-one p, drop-cons b p 0 within)
 
   pub left_at : roll_left (rolled p b) ≡ rolled (p + 1) b
   unfolding rolled
   left_at =
-      ap roll_left rolled-at ∙ left_cons (get_or b p 0) (drop (p + 1) b ++ take p b)
+      ap roll_left rolled_at ∙ left_cons (get_or b p 0) (drop (p + 1) b ++ take p b)
       ∙ append_assoc (drop (p + 1) b) (take p b) (get_or b p 0 ∷ [])
       ∙ rw (add-one p) (ap (λ (l : List ℕ). drop (suc p) b ++ l) (sym (take-suc b p 0 within)))
 
   pub right_at : roll_right (rolled (p + 1) b) ≡ rolled p b
-  right_at = ap roll_right (sym left_at) ∙ right_left (rolled p b) (omega (arith, length-rolled p b))
+  right_at = ap roll_right (sym left_at) ∙ right_left (rolled p b) (omega (arith, length_rolled p b))
 
   -- an entry, before the end of the list and behind it
   pub entry_before : (i : ℕ) → p + i < length b → get_or (rolled p b) i 0 ≡ get_or b (p + i) 0
@@ -92,7 +92,7 @@ place_by n t b e false x = rolled_zero b ∙ sym (rolled_beyond t b (omega (arit
 
 pub place_rolls : (n t : ℕ) (l : List ℕ) → rolled (first_place n t) (entries n l) ≡ rolled t (entries n l)
 unfolding first_place
-place_rolls n t l = place_by n t (entries n l) (length-entries n l) (ltb t n) refl
+place_rolls n t l = place_by n t (entries n l) (length_entries n l) (ltb t n) refl
 
 within_by : (n t : ℕ) (x : Bool) → ltb t n ≡ x → 0 < n → pick x t 0 < n
 within_by n t true x h = ltb-true t n x
@@ -106,9 +106,9 @@ most_by : (n t : ℕ) (x : Bool) → ltb t n ≡ x → pick x t 0 ≤ n
 most_by n t true x = omega (arith, ltb-true t n x)
 most_by n t false x = omega arith
 
-pub place-most : (n t : ℕ) → first_place n t ≤ n
+pub place_most : (n t : ℕ) → first_place n t ≤ n
 unfolding first_place
-place-most n t = most_by n t (ltb t n) refl
+place_most n t = most_by n t (ltb t n) refl
 
 none_left : (b : List ℕ) (t : ℕ) → length b ≡ 0 → rolled 0 b ≡ roll_left (rolled t b)
 unfolding roll_left
@@ -118,7 +118,7 @@ none_left b t e = rolled_zero b ∙ sym (ap (rolled 1) (rolled_beyond t b (omega
 pub none_right : (n t : ℕ) (l : List ℕ) → n ≡ 0 → rolled t (entries n l) ≡ roll_right (rolled t (entries n l))
 unfolding roll_right
 none_right n t l e =
-    let size : length (rolled t (entries n l)) ≡ 0 = length-rolled t (entries n l) ∙ length-entries n l ∙ e in
+    let size : length (rolled t (entries n l)) ≡ 0 = length_rolled t (entries n l) ∙ length_entries n l ∙ e in
     sym (rolled_beyond _ (rolled t (entries n l)) (omega arith))
 
 module _ (n t : ℕ) (l : List ℕ) where
@@ -127,17 +127,17 @@ module _ (n t : ℕ) (l : List ℕ) where
     at_place = rw e (place_rolls n t l)
 
     at_within : 0 < n → at < length (entries n l)
-    at_within h = rw (length-entries n l, e) (place_within n t h)
+    at_within h = rw (length_entries n l, e) (place_within n t h)
 
     -- to the left: the entry at the next place; behind the last one, the first
     pub left_more : 1 < n - at → rolled (at + 1) (entries n l) ≡ roll_left (rolled t (entries n l))
     left_more h = sym (left_at (entries n l) at (at_within (omega arith))) ∙ ap roll_left at_place
 
     left_by : (k : ℕ) → k ≡ n → n - at ≤ 1 → rolled 0 (entries n l) ≡ roll_left (rolled t (entries n l))
-    left_by zero z h = none_left (entries n l) t (length-entries n l ∙ sym z)
+    left_by zero z h = none_left (entries n l) t (length_entries n l ∙ sym z)
     left_by (suc k) z h =
         let some : at < length (entries n l) = at_within (omega arith) in
-        rolled_zero (entries n l) ∙ sym (rolled_beyond (at + 1) (entries n l) (omega (arith, length-entries n l)))
+        rolled_zero (entries n l) ∙ sym (rolled_beyond (at + 1) (entries n l) (omega (arith, length_entries n l)))
         ∙ sym (left_at (entries n l) at some) ∙ ap roll_left at_place
 
     pub left_last : n - at ≤ 1 → rolled 0 (entries n l) ≡ roll_left (rolled t (entries n l))
@@ -146,7 +146,7 @@ module _ (n t : ℕ) (l : List ℕ) where
     -- to the right: the entry at the place before; before the first one, the last
     pub right_more : 0 < at → rolled (at - 1) (entries n l) ≡ roll_right (rolled t (entries n l))
     right_more h =
-        let some : at < length (entries n l) = at_within (omega (arith, e, place-most n t)) in
+        let some : at < length (entries n l) = at_within (omega (arith, e, place_most n t)) in
         let again : (at - 1) + 1 ≡ at = omega arith in
         sym (right_at (entries n l) (at - 1) (omega arith)) ∙ ap (λ (k : ℕ). roll_right (rolled k (entries n l))) again ∙ ap roll_right at_place
 
@@ -154,43 +154,43 @@ module _ (n t : ℕ) (l : List ℕ) where
     unfolding roll_right
     right_first z =
         let same : rolled t (entries n l) ≡ entries n l = sym at_place ∙ rw z (rolled_zero (entries n l)) in
-        rw (same, length-entries n l)
+        rw (same, length_entries n l)
 
     -- an entry: before the end of the slice, and around it
     pub entry_more : (i : ℕ) → i < n - at → get_or l (at + i) 0 ≡ get_or (rolled t (entries n l)) i 0
     entry_more i h =
-        sym (ap (λ (b : List ℕ). get_or b i 0) (sym at_place) ∙ entry_before (entries n l) at (at_within (omega arith)) i (omega (arith, length-entries n l))
+        sym (ap (λ (b : List ℕ). get_or b i 0) (sym at_place) ∙ entry_before (entries n l) at (at_within (omega arith)) i (omega (arith, length_entries n l))
         ∙ entry_of n l (at + i) (omega arith))
 
     pub entry_past : (i : ℕ) → i < n → n - at ≤ i → get_or l (i - (n - at)) 0 ≡ get_or (rolled t (entries n l)) i 0
     entry_past i h k =
         let some : at < length (entries n l) = at_within (omega arith) in
-        let size : length (entries n l) ≡ n = length-entries n l in
+        let size : length (entries n l) ≡ n = length_entries n l in
         let sum : (length (entries n l) - at) + (i - (n - at)) ≡ i = omega arith in
         sym (ap (λ (b : List ℕ). get_or b i 0) (sym at_place) ∙ ap (λ (k : ℕ). get_or (rolled at (entries n l)) k 0) (sym sum)
         ∙ entry_around (entries n l) at some (i - (n - at)) (omega arith) ∙ entry_of n l (i - (n - at)) (omega arith))
 
 pub entry_none : (n t : ℕ) (l : List ℕ) (i : ℕ) → n ≤ i → 0 ≡ get_or (rolled t (entries n l)) i 0
-entry_none n t l i h = sym (get_or-eq_default (rolled t (entries n l)) 0 (omega (arith, length-rolled t (entries n l), length-entries n l)))
+entry_none n t l i h = sym (get_or-eq_default (rolled t (entries n l)) 0 (omega (arith, length_rolled t (entries n l), length_entries n l)))
 
 -- fewer entries, and the entries from a place on
-take-entries : (p n : ℕ) (l : List ℕ) → p ≤ n → take p (entries n l) ≡ entries p l
+take_entries : (p n : ℕ) (l : List ℕ) → p ≤ n → take p (entries n l) ≡ entries p l
 unfolding entries
-take-entries zero n l h = refl
-take-entries (suc p) zero l h = absurd (omega arith)
-take-entries (suc p) (suc n) l h = ap (λ (b : List ℕ). get_or l 0 0 ∷ b) (take-entries p n (drop 1 l) (omega arith))
+take_entries zero n l h = refl
+take_entries (suc p) zero l h = absurd (omega arith)
+take_entries (suc p) (suc n) l h = ap (λ (b : List ℕ). get_or l 0 0 ∷ b) (take_entries p n (drop 1 l) (omega arith))
 
 -- one more entry put
 pub entry_put : (i n : ℕ) (l out : List ℕ) (at : ℕ) {whole : List ℕ} → i < n → sets out at (drop i (entries n l)) ≡ whole →
     sets (set out at (get_or l i 0)) (at + 1) (drop (i + 1) (entries n l)) ≡ whole
 entry_put i n l out at h e =
-    rw (add-one at, add-one i) (rw (drop-cons (entries n l) i 0 (omega (arith, length-entries n l)), entry_of n l i h) at e)
+    rw (add-one at, add-one i) (rw (drop-cons (entries n l) i 0 (omega (arith, length_entries n l)), entry_of n l i h) at e)
 
 -- the entries from the first one on, then those before it, put one after the other
-pub parts-put : (n t : ℕ) (l out : List ℕ) (at : ℕ) {p : ℕ} → p ≡ first_place n t → p ≤ n →
+pub parts_put : (n t : ℕ) (l out : List ℕ) (at : ℕ) {p : ℕ} → p ≡ first_place n t → p ≤ n →
     sets (sets out at (drop p (entries n l))) (at + (n - p)) (drop 0 (entries p l)) ≡ sets out at (rolled t (entries n l))
 unfolding rolled
-parts-put n t l out at {p} e h =
-    let size : length (drop p (entries n l)) ≡ n - p = length-drop p (entries n l) ∙ rw (length-entries n l) in
-    sym (ap (sets out at) (sym (at_place n t l e) ∙ ap (λ (b : List ℕ). drop p (entries n l) ++ b) (take-entries p n l h))
-    ∙ sets-append out at (drop p (entries n l)) (entries p l) ∙ rw size)
+parts_put n t l out at {p} e h =
+    let size : length (drop p (entries n l)) ≡ n - p = length-drop p (entries n l) ∙ rw (length_entries n l) in
+    sym (ap (sets out at) (sym (at_place n t l e) ∙ ap (λ (b : List ℕ). drop p (entries n l) ++ b) (take_entries p n l h))
+    ∙ sets_append out at (drop p (entries n l)) (entries p l) ∙ rw size)

@@ -7,8 +7,8 @@ use native.Mathlib.Nat.{zero-add}
 use lib.ListN.{length, length-append}
 use lib.Seq.{sets}
 use Rattle.base.specs.Filling.{denied, fitted}
-use Rattle.base.proofs.Filling.{fitted_short, fitted-room}
-use Rattle.base.proofs.Places.{sets-append, sets-placed}
+use Rattle.base.proofs.Filling.{fitted_short, fitted_room}
+use Rattle.base.proofs.Places.{sets_append, sets_placed}
 use Rattle.refusal.specs.Writing.{filling_of}
 use Rattle.refusal.specs.declared.WriteAnswer.TheVariants.{Written}
 use Rattle.mop_header.specs.Header.{Head, function_byte, address_bytes, header_bytes, header_length, telegram_of}
@@ -24,18 +24,18 @@ module _ (h : Head) (out : List ℕ) {byte : ℕ} {b : List ℕ} (function : byt
   unfolding header_bytes address_bytes
   extended_stored told count = rw (told, function, block, count)
 
-pub length-telegram : (h : Head) (body : List ℕ) → length (telegram_of h body) ≡ header_length h + length body
+pub length_telegram : (h : Head) (body : List ℕ) → length (telegram_of h body) ≡ header_length h + length body
 unfolding telegram_of header_length
-length-telegram h body = length-append (header_bytes h) body
+length_telegram h body = length-append (header_bytes h) body
 
 module _ (h : Head) (body out : List ℕ) where
-  pub telegram-short : length out < header_length h + length body → fitted (telegram_of h body) out ≡ denied 11 out
-  telegram-short l = fitted_short (telegram_of h body) out (rw (length-telegram h body) l)
+  pub telegram_short : length out < header_length h + length body → fitted (telegram_of h body) out ≡ denied 11 out
+  telegram_short l = fitted_short (telegram_of h body) out (rw (length_telegram h body) l)
 
-  pub telegram-written : {n : ℕ} {first both : List ℕ} → n ≡ header_length h → header_length h + length body ≤ length out →
+  pub telegram_written : {n : ℕ} {first both : List ℕ} → n ≡ header_length h → header_length h + length body ≤ length out →
       first ≡ sets out 0 (header_bytes h) → both ≡ sets first n body → filling_of (Written (n + length body)) both ≡ fitted (telegram_of h body) out
   unfolding telegram_of header_length
-  telegram-written e room f g =
-      rw (fitted-room (telegram_of h body) out (rw (length-telegram h body) room))
-      (rw (g, f, e, ← length-append (header_bytes h) body, ← sets-placed (telegram_of h body) out (rw (length-telegram h body) room))
-      (ap (λ (l : List ℕ). filling_of (Written (length (telegram_of h body))) l) (sym (sets-append out 0 (header_bytes h) body ∙ rw zero-add))))
+  telegram_written e room f g =
+      rw (fitted_room (telegram_of h body) out (rw (length_telegram h body) room))
+      (rw (g, f, e, ← length-append (header_bytes h) body, ← sets_placed (telegram_of h body) out (rw (length_telegram h body) room))
+      (ap (λ (l : List ℕ). filling_of (Written (length (telegram_of h body))) l) (sym (sets_append out 0 (header_bytes h) body ∙ rw zero-add))))

@@ -27,9 +27,9 @@ module _ (f : Function) (a b c d : ℕ) where
   unfolding is_mark
   by_first p q r = simp (eq-eqb _ _ p, eq-eqb _ _ q, eq-eqb _ _ r)
 
-  pub mark-entries : is_mark f a b c d ≡ true → (b ≡ 0xEF) × (c ≡ 0xEF) × (d ≡ 0xEF)
+  pub mark_entries : is_mark f a b c d ≡ true → (b ≡ 0xEF) × (c ≡ 0xEF) × (d ≡ 0xEF)
   unfolding is_mark
-  mark-entries e =
+  mark_entries e =
       let p = (and-eq-true_iff (eqb b 0xEF) (eqb c 0xEF && (eqb d 0xEF && may_begin f a))).0 e in
       let q = (and-eq-true_iff (eqb c 0xEF) (eqb d 0xEF && may_begin f a)).0 p.1 in
       let r = (and-eq-true_iff (eqb d 0xEF) (may_begin f a)).0 q.1 in
@@ -41,17 +41,17 @@ begins Request a e = rw e
 begins Reply a e = rw e
 
 module _ (a : ℕ) (other : a ≡ 0xEF → ⊥) where
-  pub begins-request : may_begin Request a ≡ false
+  pub begins_request : may_begin Request a ≡ false
   unfolding may_begin
-  begins-request = simp (ne_eqb _ _ other)
+  begins_request = simp (ne_eqb _ _ other)
 
-  pub begins-reply : may_begin Reply a ≡ eqb a 0
+  pub begins_reply : may_begin Reply a ≡ eqb a 0
   unfolding may_begin
-  begins-reply = simp (ne_eqb _ _ other)
+  begins_reply = simp (ne_eqb _ _ other)
 
 -- the first byte that a mark has to have makes it one
-pub own-mark : (f : Function) (a : ℕ) → is_mark f (mark_byte f a) 0xEF 0xEF 0xEF ≡ true
+pub own_mark : (f : Function) (a : ℕ) → is_mark f (mark_byte f a) 0xEF 0xEF 0xEF ≡ true
 unfolding is_mark may_begin mark_byte
-own-mark Request a = refl
-own-mark Reply zero = refl
-own-mark Reply (suc a) = refl
+own_mark Request a = refl
+own_mark Reply zero = refl
+own_mark Reply (suc a) = refl

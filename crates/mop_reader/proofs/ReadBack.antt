@@ -19,18 +19,18 @@ use Rattle.mop_header.specs.declared.Function.{Function}
 use Rattle.mop_header.specs.declared.Form.{Form}
 use Rattle.mop_header.specs.declared.Form.TheVariants.{Standard, Extended}
 use Rattle.mop_reader.specs.declared.Reader.{Reader}
-use Rattle.mop_reader.proofs.Marks.{mark-entries, own-mark}
-use Rattle.mop_reader.proofs.Readers.{function-at, byte_at, taken_good}
-use Rattle.mop_reader.proofs.Steps.{judged-sound, as_extended, as_standard, behind-mark}
-use Rattle.mop_header.proofs.Writing.{length-telegram}
+use Rattle.mop_reader.proofs.Marks.{mark_entries, own_mark}
+use Rattle.mop_reader.proofs.Readers.{function_at_lem, byte_at, taken_good}
+use Rattle.mop_reader.proofs.Steps.{judged_sound, as_extended, as_standard, behind_mark}
+use Rattle.mop_header.proofs.Writing.{length_telegram}
 
 -- the entries of a mark are a station twice
 no_mark_by : (f : Function) (a b c d : ℕ) (t : Bool) → is_mark f a b c d ≡ t → good_block (a ∷ b ∷ c ∷ d ∷ []) ≡ true → t ≡ false
 no_mark_by f a b c d false e g = refl
-no_mark_by f a b c d true e g = let p = mark-entries f a b c d e in absurd (not_twice a b c d 0xEE g p.1 p.2)
+no_mark_by f a b c d true e g = let p = mark_entries f a b c d e in absurd (not_twice a b c d 0xEE g p.1 p.2)
 
-pub no-mark : NoMark
-no-mark f a b c d g = no_mark_by f a b c d (is_mark f a b c d) refl g
+pub no_mark : NoMark
+no_mark f a b c d g = no_mark_by f a b c d (is_mark f a b c d) refl g
 
 -- the body stands behind the header
 pub body_behind : (h : Head) (body : List ℕ) → body_of h (telegram_of h body) ≡ body
@@ -49,8 +49,8 @@ module _ (who : Reader) (f : Function) (c : ℕ) (body : List ℕ) where
   standard_back (w ∷ x ∷ y ∷ z ∷ a ∷ b) four o l = absurd (omega arith)
   standard_back (w ∷ x ∷ y ∷ z ∷ []) four o l =
       let tg : List ℕ = function_byte f ∷ c ∷ w ∷ x ∷ y ∷ z ∷ body in
-      as_standard who tg l (omega arith) o.function (no-mark (function_at tg) w x y z (taken_good who (w ∷ x ∷ y ∷ z ∷ []) o.block))
-      ∙ rw function-at (judged-sound who (head f c Standard (w ∷ x ∷ y ∷ z ∷ [])) o.block o.mark)
+      as_standard who tg l (omega arith) o.function (no_mark (function_at tg) w x y z (taken_good who (w ∷ x ∷ y ∷ z ∷ []) o.block))
+      ∙ rw function_at_lem (judged_sound who (head f c Standard (w ∷ x ∷ y ∷ z ∷ [])) o.block o.mark)
 
   extended_back : (m : ℕ) (b : List ℕ) → InOrder who (head f c (Extended m) b) → length (telegram_of (head f c (Extended m) b) body) ≤ max_telegram →
       reading who (telegram_of (head f c (Extended m) b) body) ≡ sound (head f c (Extended m) b)
@@ -59,10 +59,10 @@ module _ (who : Reader) (f : Function) (c : ℕ) (body : List ℕ) where
       let tg : List ℕ = function_byte f ∷ c ∷ m ∷ 0xEF ∷ 0xEF ∷ 0xEF ∷ length b ∷ (b ++ body) in
       let long : length (b ++ body) ≡ length b + length body = length-append b body in
       let p = (and-eq-true_iff (leb 2 (length b)) (leb (length b) 32)).0 o.size in
-      let mark : is_mark f m 0xEF 0xEF 0xEF ≡ true = rw (eqb-true m (mark_byte f (first b)) o.mark) (own-mark f (first b)) in
-      as_extended who tg l (omega arith) o.function (rw function-at mark)
-      ∙ behind-mark who tg (omega arith) (leb-true 2 (length b) p.0) (leb-true (length b) 32 p.1) (omega arith)
-      ∙ rw (function-at, take_at b body (length b) refl) (judged-sound who (head f c (Extended m) b) o.block o.mark)
+      let mark : is_mark f m 0xEF 0xEF 0xEF ≡ true = rw (eqb-true m (mark_byte f (first b)) o.mark) (own_mark f (first b)) in
+      as_extended who tg l (omega arith) o.function (rw function_at_lem mark)
+      ∙ behind_mark who tg (omega arith) (leb-true 2 (length b) p.0) (leb-true (length b) 32 p.1) (omega arith)
+      ∙ rw (function_at_lem, take_at b body (length b) refl) (judged_sound who (head f c (Extended m) b) o.block o.mark)
 
   back : (m : Form) (b : List ℕ) → InOrder who (head f c m b) → length (telegram_of (head f c m b) body) ≤ max_telegram →
       reading who (telegram_of (head f c m b) body) ≡ sound (head f c m b)
@@ -70,8 +70,8 @@ module _ (who : Reader) (f : Function) (c : ℕ) (body : List ℕ) where
   back Standard b o l = standard_back b (eqb-true (length b) 4 o.size) o l
   back (Extended m) b o l = extended_back m b o l
 
-pub reads-back : ReadsBack
-reads-back who h body o l = (back who h.function h.control body h.form h.block o l, body_behind h body)
+pub reads_back : ReadsBack
+reads_back who h body o l = (back who h.function h.control body h.form h.block o l, body_behind h body)
 
 -- a test that was passed
 passed : (t : Bool) (k : ℕ) (x : Reading) (h : Head) → pick t (faulty k) x ≡ sound h → (t ≡ false) × (x ≡ sound h)
@@ -81,9 +81,9 @@ passed false k x h e = (refl, e)
 same_head : (h₀ h : Head) → sound h₀ ≡ sound h → h₀ ≡ h
 same_head h₀ h e = cc
 
-judged-order : (who : Reader) (h₀ h : Head) → judged who h₀ ≡ sound h → (good_for who h₀.block ≡ true) × (mark_agrees h₀ ≡ true) × (h₀ ≡ h)
+judged_order : (who : Reader) (h₀ h : Head) → judged who h₀ ≡ sound h → (good_for who h₀.block ≡ true) × (mark_agrees h₀ ≡ true) × (h₀ ≡ h)
 unfolding judged
-judged-order who h₀ h e =
+judged_order who h₀ h e =
     let p = passed (not (good_for who h₀.block)) 5 (pick (not (mark_agrees h₀)) (faulty 6) (sound h₀)) h e in
     let q = passed (not (mark_agrees h₀)) 6 (sound h₀) h p.1 in
     (not-false (good_for who h₀.block) p.0, not-false (mark_agrees h₀) q.0, same_head h₀ h q.1)
@@ -94,13 +94,13 @@ whole_by h rest e = rw (← e, body_behind h rest)
 
 -- the first entries and what is behind them
 module _ (tg : List ℕ) where
-  behind-two : 2 ≤ length tg → get_or tg 0 0 ∷ get_or tg 1 0 ∷ drop 2 tg ≡ tg
-  behind-two l = rw (← drop-cons tg 1 0 (omega arith), ← drop-cons tg 0 0 (omega arith))
+  behind_two : 2 ≤ length tg → get_or tg 0 0 ∷ get_or tg 1 0 ∷ drop 2 tg ≡ tg
+  behind_two l = rw (← drop-cons tg 1 0 (omega arith), ← drop-cons tg 0 0 (omega arith))
 
   behind_seven : 7 ≤ length tg → get_or tg 0 0 ∷ get_or tg 1 0 ∷ get_or tg 2 0 ∷ get_or tg 3 0 ∷ get_or tg 4 0 ∷ get_or tg 5 0 ∷ count_at tg ∷ drop 7 tg ≡ tg
   behind_seven l =
       rw (← drop-cons tg 6 0 l, ← drop-cons tg 5 0 (omega arith), ← drop-cons tg 4 0 (omega arith), ← drop-cons tg 3 0 (omega arith), ← drop-cons tg 2 0 (omega arith))
-      (behind-two (omega arith))
+      (behind_two (omega arith))
 
 module _ (who : Reader) (tg : List ℕ) (h : Head) (small : length tg ≤ max_telegram) (six : 6 ≤ length tg) (function : allowed who (get_or tg 0 0) ≡ true) where
   standard_written : standard_reading who tg ≡ sound h → ReadWell who tg h
@@ -108,11 +108,11 @@ module _ (who : Reader) (tg : List ℕ) (h : Head) (small : length tg ≤ max_te
   standard_written e =
       let b : List ℕ = take 4 (drop 2 tg) in
       let h₀ : Head = head (function_at tg) (get_or tg 1 0) Standard b in
-      let i = judged-order who h₀ h e in
+      let i = judged_order who h₀ h e in
       let four : length b ≡ 4 = length-take-le 4 (drop 2 tg) (omega (arith, length-drop 2 tg)) in
       subst (λ (g : Head). ReadWell who tg g) i.2 (record {
         order = record { function = rw (byte_at who tg function) function; size = eq-eqb (length b) 4 four; block = i.0; mark = i.1 };
-        whole = whole_by h₀ (drop 4 (drop 2 tg)) (rw (byte_at who tg function, take-append-drop 4 (drop 2 tg)) (behind-two tg (omega arith)));
+        whole = whole_by h₀ (drop 4 (drop 2 tg)) (rw (byte_at who tg function, take-append-drop 4 (drop 2 tg)) (behind_two tg (omega arith)));
         short = small;
       })
 
@@ -125,8 +125,8 @@ module _ (who : Reader) (tg : List ℕ) (h : Head) (small : length tg ≤ max_te
       let p = passed (ltb (length tg) 7) 2 _ h e in
       let q = passed (not (leb 2 n && leb n 32)) 4 _ h p.1 in
       let r = passed (ltb (length tg) (7 + n)) 2 _ h q.1 in
-      let i = judged-order who h₀ h r.1 in
-      let efs = mark-entries (function_at tg) (get_or tg 2 0) (get_or tg 3 0) (get_or tg 4 0) (get_or tg 5 0) m in
+      let i = judged_order who h₀ h r.1 in
+      let efs = mark_entries (function_at tg) (get_or tg 2 0) (get_or tg 3 0) (get_or tg 4 0) (get_or tg 5 0) m in
       let room : 7 + n ≤ length tg = ltb-false (length tg) (7 + n) r.0 in
       let long : length b ≡ n = length-take-le n (drop 7 tg) (omega (arith, length-drop 7 tg)) in
       let bytes = rw (efs.0, efs.1, efs.2) at (behind_seven tg (omega arith)) in
@@ -141,9 +141,9 @@ module _ (who : Reader) (tg : List ℕ) (h : Head) (small : length tg ≤ max_te
   by_form true m e = extended_written m e
   by_form false m e = standard_written e
 
-pub is-written : IsWritten
+pub is_written : IsWritten
 unfolding reading
-is-written who tg h e =
+is_written who tg h e =
     let p = passed (ltb max_telegram (length tg)) 12 _ h e in
     let q = passed (ltb (length tg) 6) 2 _ h p.1 in
     let r = passed (not (allowed who (get_or tg 0 0))) 3 _ h q.1 in
@@ -151,5 +151,5 @@ is-written who tg h e =
     (is_mark (function_at tg) (get_or tg 2 0) (get_or tg 3 0) (get_or tg 4 0) (get_or tg 5 0)) refl r.1
 
 -- the header stands in the telegram
-pub sound-room : (who : Reader) (tg : List ℕ) (h : Head) → reading who tg ≡ sound h → header_length h ≤ length tg
-sound-room who tg h e = omega (arith, length-telegram h (body_of h tg), ap length (is-written who tg h e).whole)
+pub sound_room : (who : Reader) (tg : List ℕ) (h : Head) → reading who tg ≡ sound h → header_length h ≤ length tg
+sound_room who tg h e = omega (arith, length_telegram h (body_of h tg), ap length (is_written who tg h e).whole)

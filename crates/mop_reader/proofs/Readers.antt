@@ -16,10 +16,10 @@ use Rattle.mop_header.specs.declared.Function.TheVariants.{Request, Reply}
 use Rattle.mop_reader.specs.declared.Reader.{Reader}
 use Rattle.mop_reader.specs.declared.Reader.TheVariants.{Station, Centre}
 
-pub reply-allowed : (who : Reader) (f : ℕ) → f ≡ 0xE0 → allowed who f ≡ true
+pub reply_allowed : (who : Reader) (f : ℕ) → f ≡ 0xE0 → allowed who f ≡ true
 unfolding allowed
-reply-allowed Station f e = rw e
-reply-allowed Centre f e = rw e
+reply_allowed Station f e = rw e
+reply_allowed Centre f e = rw e
 
 module _ (f : ℕ) (other : f ≡ 0xE0 → ⊥) where
   pub station_allows : allowed Station f ≡ eqb f 0x60
@@ -31,10 +31,10 @@ module _ (f : ℕ) (other : f ≡ 0xE0 → ⊥) where
   centre_allows = simp (ne_eqb _ _ other)
 
 -- a function and its byte
-pub function-at : (f : Function) (l : List ℕ) → function_at (function_byte f ∷ l) ≡ f
+pub function_at_lem : (f : Function) (l : List ℕ) → function_at (function_byte f ∷ l) ≡ f
 unfolding function_at
-function-at Request l = refl
-function-at Reply l = refl
+function_at_lem Request l = refl
+function_at_lem Reply l = refl
 
 byte_by : (who : Reader) (f : ℕ) (t : Bool) → eqb f 0xE0 ≡ t → allowed who f ≡ true → function_byte (pick t Reply Request) ≡ f
 byte_by who f true e a = sym (eqb-true f 0xE0 e)
@@ -45,15 +45,15 @@ pub byte_at : (who : Reader) (tg : List ℕ) → allowed who (get_or tg 0 0) ≡
 unfolding function_at
 byte_at who tg a = byte_by who (get_or tg 0 0) (eqb (get_or tg 0 0) 0xE0) refl a
 
-pub none-takes : (who : Reader) (b : List ℕ) → good_block b ≡ false → good_for who b ≡ false
+pub none_takes : (who : Reader) (b : List ℕ) → good_block b ≡ false → good_for who b ≡ false
 unfolding good_for
-none-takes Station b e = e
-none-takes Centre b e = rw e
+none_takes Station b e = e
+none_takes Centre b e = rw e
 
 module _ (b : List ℕ) (good : good_block b ≡ true) where
-  pub station-takes : good_for Station b ≡ true
+  pub station_takes : good_for Station b ≡ true
   unfolding good_for
-  station-takes = good
+  station_takes = good
 
   pub centre_takes : good_for Centre b ≡ ltb 0 (length (stations b))
   unfolding good_for

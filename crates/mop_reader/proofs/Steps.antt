@@ -12,24 +12,24 @@ use Rattle.mop_header.specs.Header.{Head, head, head_of, entries, is_mark, mark_
 use Rattle.mop_reader.specs.Reading.{sound, faulty, allowed, function_at, good_for, judged, standard_reading, count_at, extended_reading, max_telegram, reading}
 use Rattle.mop_header.specs.declared.Form.{Form}
 use Rattle.mop_header.specs.declared.Header.{Header}
-use Rattle.mop_header.proofs.Turns.{own-entries, all-entries}
+use Rattle.mop_header.proofs.Turns.{own_entries, all_entries}
 use Rattle.mop_header.specs.declared.Form.TheVariants.{Standard, Extended}
 use Rattle.mop_header.specs.declared.Function.{Function}
 use Rattle.mop_header.specs.declared.Function.TheVariants.{Request, Reply}
 use Rattle.mop_reader.specs.declared.Reader.{Reader}
 
 -- the block, then the mark
-pub judged-block : (who : Reader) (h : Head) → good_for who h.block ≡ false → judged who h ≡ faulty 5
+pub judged_block : (who : Reader) (h : Head) → good_for who h.block ≡ false → judged who h ≡ faulty 5
 unfolding judged
-judged-block who h bad = rw bad
+judged_block who h bad = rw bad
 
-pub judged-mark : (who : Reader) (h : Head) → good_for who h.block ≡ true → mark_agrees h ≡ false → judged who h ≡ faulty 6
+pub judged_mark : (who : Reader) (h : Head) → good_for who h.block ≡ true → mark_agrees h ≡ false → judged who h ≡ faulty 6
 unfolding judged
-judged-mark who h good bad = rw (good, bad)
+judged_mark who h good bad = rw (good, bad)
 
-pub judged-sound : (who : Reader) (h : Head) → good_for who h.block ≡ true → mark_agrees h ≡ true → judged who h ≡ sound h
+pub judged_sound : (who : Reader) (h : Head) → good_for who h.block ≡ true → mark_agrees h ≡ true → judged who h ≡ sound h
 unfolding judged
-judged-sound who h good mark = rw (good, mark)
+judged_sound who h good mark = rw (good, mark)
 
 module _ (who : Reader) (tg : List ℕ) where
   -- the whole telegram
@@ -85,10 +85,10 @@ module _ (who : Reader) (tg : List ℕ) where
       unfolding extended_reading
       block_cut l = rw (le-ltb (length tg) 7 seven, le-leb 2 (count_at tg) least, le-leb (count_at tg) 32 most, lt-ltb (length tg) (7 + count_at tg) l)
 
-      pub behind-mark : 7 + count_at tg ≤ length tg →
+      pub behind_mark : 7 + count_at tg ≤ length tg →
           extended_reading who tg ≡ judged who (head (function_at tg) (get_or tg 1 0) (Extended (get_or tg 2 0)) (take (count_at tg) (drop 7 tg)))
       unfolding extended_reading
-      behind-mark l = rw (le-ltb (length tg) 7 seven, le-leb 2 (count_at tg) least, le-leb (count_at tg) 32 most, le-ltb (length tg) (7 + count_at tg) l)
+      behind_mark l = rw (le-ltb (length tg) 7 seven, le-leb 2 (count_at tg) least, le-leb (count_at tg) 32 most, le-ltb (length tg) (7 + count_at tg) l)
 
 -- without a mark the four entries are the block
 pub without_mark : (who : Reader) (tg : List ℕ) → standard_reading who tg ≡ judged who (head (function_at tg) (get_or tg 1 0) Standard (take 4 (drop 2 tg)))
@@ -98,11 +98,11 @@ without_mark who tg = refl
 -- a header as it is made, of as many entries as its block has
 module _ (h : Header) (f : Function) (k : ℕ) (form : Form) (b : List ℕ)
     (made : (slice : List ℕ) → head_of h slice ≡ head f k form (entries (length b) slice)) where
-  pub made-beside : head_of h b ≡ head f k form b
-  made-beside = made b ∙ ap (head f k form) (all-entries b)
+  pub made_beside : head_of h b ≡ head f k form b
+  made_beside = made b ∙ ap (head f k form) (all_entries b)
 
   -- beside the telegram that the block stands in
-  pub made-read : (tg rest : List ℕ) → drop (block_start form) tg ≡ b ++ rest → head_of h (drop (block_start h.form) tg) ≡ head f k form b
-  made-read tg rest e =
+  pub made_read : (tg rest : List ℕ) → drop (block_start form) tg ≡ b ++ rest → head_of h (drop (block_start h.form) tg) ≡ head f k form b
+  made_read tg rest e =
       let same : h.form ≡ form = ap (λ (x : Head). x.form) (made []) in
-      ap (λ (m : Form). head_of h (drop (block_start m) tg)) same ∙ ap (head_of h) e ∙ made (b ++ rest) ∙ ap (head f k form) (own-entries b rest)
+      ap (λ (m : Form). head_of h (drop (block_start m) tg)) same ∙ ap (head_of h) e ∙ made (b ++ rest) ∙ ap (head f k form) (own_entries b rest)

@@ -12,7 +12,7 @@ use Rattle.base.proofs.Choice.{pick_either}
 use Rattle.base.proofs.Words.{high_word, low_word}
 use Rattle.mop_registers.specs.Rows.{TimeBytes, Row, rows, rows_before, write_of, range_of, table_length, place_of, exists, may_write, takes, factory, FactoryInRange}
 use Rattle.mop_registers.specs.Runs.{run_exists}
-use Rattle.mop_registers.proofs.Tests.{every, every-at}
+use Rattle.mop_registers.proofs.Tests.{every, every_at}
 
 pub time_bytes : TimeBytes
 time_bytes hour minute byte = rw (high_word hour minute byte, low_word hour minute byte)
@@ -21,25 +21,25 @@ pub table_length_lem : table_length ≡ length rows
 unfolding table_length
 table_length_lem = refl
 
-pub length-factory : length factory ≡ table_length
+pub length_factory : length factory ≡ table_length
 unfolding factory table_length
-length-factory = refl
+length_factory = refl
 
-pub place-exists : (n : ℕ) → place_of n < table_length → exists n ≡ true
+pub place_exists : (n : ℕ) → place_of n < table_length → exists n ≡ true
 unfolding exists
-place-exists n h = lt-ltb (place_of n) table_length h
+place_exists n h = lt-ltb (place_of n) table_length h
 
 pub place_beyond : (n : ℕ) → table_length ≤ place_of n → exists n ≡ false
 unfolding exists
 place_beyond n h = le-ltb (place_of n) table_length h
 
-rows-most : (n : ℕ) (l : List Row) → rows_before n l ≤ length l
-rows-most n [] = omega arith
-rows-most n (r ∷ rs) = pick_either (λ (k : ℕ). k ≤ suc (length rs)) (eqb n r.number) (omega arith) (omega (arith, rows-most n rs))
+rows_most : (n : ℕ) (l : List Row) → rows_before n l ≤ length l
+rows_most n [] = omega arith
+rows_most n (r ∷ rs) = pick_either (λ (k : ℕ). k ≤ suc (length rs)) (eqb n r.number) (omega arith) (omega (arith, rows_most n rs))
 
-pub place-most : (n : ℕ) → place_of n ≤ table_length
+pub place_most : (n : ℕ) → place_of n ≤ table_length
 unfolding place_of table_length
-place-most n = rows-most n rows
+place_most n = rows_most n rows
 
 abbrev numbers_of : List Row → List ℕ
 numbers_of l = map (λ r. r.number) l
@@ -69,7 +69,7 @@ module _ (n : ℕ) (there : exists n ≡ true) where
   -- what a test shows of each number of the table
   by_test : (f : ℕ → Bool) → every f (numbers_of rows) ≡ true → f n ≡ true
   unfolding table_length
-  by_test f e = subst (λ (k : ℕ). f k ≡ true) number_at (every-at f (numbers_of rows) e (place_of n) place_bound)
+  by_test f e = subst (λ (k : ℕ). f k ≡ true) number_at (every_at f (numbers_of rows) e (place_of n) place_bound)
 
   pub number_bound : n < 65536
   number_bound = ltb-true n 65536 (by_test (λ k. ltb k 65536) refl)
@@ -91,28 +91,28 @@ follows : (n : ℕ) → exists n ≡ true → (not (exists (suc n)) || eqb (plac
 unfolding exists place_of table_length
 follows n there = by_test n there (λ k. not (exists (suc k)) || eqb (place_of (suc k)) (suc (place_of k))) refl
 
-pub place-next : (n : ℕ) → exists n ≡ true → exists (suc n) ≡ true → place_of (suc n) ≡ suc (place_of n)
-place-next n there next = eqb-true (place_of (suc n)) (suc (place_of n)) (rw next at (follows n there))
+pub place_next : (n : ℕ) → exists n ≡ true → exists (suc n) ≡ true → place_of (suc n) ≡ suc (place_of n)
+place_next n there next = eqb-true (place_of (suc n)) (suc (place_of n)) (rw next at (follows n there))
 
 no_row : (n : ℕ) → exists n ≡ false → drop (place_of n) rows ≡ []
 unfolding exists table_length
 no_row n e = drop_of_length-le rows (ltb-false (place_of n) table_length e)
 
 -- what does not hold without a row holds of no number but a register's
-only-rows : (n : ℕ) (f : List Row → Bool) → f [] ≡ false → f (drop (place_of n) rows) ≡ true → exists n ≡ true
-only-rows n f none t = go (exists n) refl
+only_rows : (n : ℕ) (f : List Row → Bool) → f [] ≡ false → f (drop (place_of n) rows) ≡ true → exists n ≡ true
+only_rows n f none t = go (exists n) refl
   where
     go : (b : Bool) → exists n ≡ b → exists n ≡ true
     go true e = e
     go false e = absurd (false≢true (sym none ∙ (rw (no_row n e) at t)))
 
-pub written-exists : (n : ℕ) → may_write n ≡ true → exists n ≡ true
+pub written_exists : (n : ℕ) → may_write n ≡ true → exists n ≡ true
 unfolding may_write
-written-exists n t = only-rows n write_of refl t
+written_exists n t = only_rows n write_of refl t
 
-pub taken-exists : (n v : ℕ) → takes n v ≡ true → exists n ≡ true
+pub taken_exists : (n v : ℕ) → takes n v ≡ true → exists n ≡ true
 unfolding takes
-taken-exists n v t = only-rows n (λ l. range_of l v) refl t
+taken_exists n v t = only_rows n (λ l. range_of l v) refl t
 
 -- a number of which a test does not hold, though it does of each number of the table
 pub no_place : (n : ℕ) (f : ℕ → Bool) → every f (numbers_of rows) ≡ true → f n ≡ false → place_of n ≡ table_length
@@ -121,4 +121,4 @@ no_place n f all none = go (exists n) refl
   where
     go : (b : Bool) → exists n ≡ b → place_of n ≡ table_length
     go true there = absurd (false≢true (sym none ∙ by_test n there f all))
-    go false e = omega (arith, place-most n, ltb-false (place_of n) table_length e)
+    go false e = omega (arith, place_most n, ltb-false (place_of n) table_length e)

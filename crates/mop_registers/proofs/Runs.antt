@@ -15,20 +15,20 @@ use lib.Seq.{sets, drop-cons, get_or-set_same, get_or-set_other}
 use Rattle.mop_registers.specs.Rows.{from_to, table_length, place_of, exists, may_write, takes}
 use Rattle.mop_registers.specs.Runs.{run_exists, LongestRun, run_may_write, run_takes, writes, reads, KeptOrInRange, WritesInRange}
 use Rattle.mop_registers.proofs.Tests.{both_true}
-use Rattle.mop_registers.proofs.Places.{place-most, place_bound, place_apart, place-next, number_bound, taken-exists, no_nine}
+use Rattle.mop_registers.proofs.Places.{place_most, place_bound, place_apart, place_next, number_bound, taken_exists, no_nine}
 
 -- a test of a run that is a test of each register
 pub record Stepwise (test : ℕ → Bool) (run : ℕ → ℕ → Bool) : Type 0 where
   pub none : (s : ℕ) → run s zero ≡ true
   pub step : (s c : ℕ) → run s (suc c) ≡ (test s && run (suc s) c)
 
-pub exists-steps : Stepwise exists run_exists
+pub exists_steps : Stepwise exists run_exists
 unfolding run_exists
-exists-steps = record { none = λ s. refl; step = λ s c. refl }
+exists_steps = record { none = λ s. refl; step = λ s c. refl }
 
-pub write-steps : Stepwise may_write run_may_write
+pub write_steps : Stepwise may_write run_may_write
 unfolding run_may_write
-write-steps = record { none = λ s. refl; step = λ s c. refl }
+write_steps = record { none = λ s. refl; step = λ s c. refl }
 
 module _ {test : ℕ → Bool} {run : ℕ → ℕ → Bool} (w : Stepwise test run) where
   pub run_on : (s c : ℕ) → 0 < c → test s ≡ true → run (s + 1) (c - 1) ≡ run s c
@@ -41,32 +41,32 @@ module _ {test : ℕ → Bool} {run : ℕ → ℕ → Bool} (w : Stepwise test r
   run_off s zero h t = absurd (omega arith)
   run_off s (suc c) h t = rw (w.step s c, t)
 
-  pub run-over : (s c : ℕ) → c ≤ 0 → run s c ≡ true
-  run-over s zero h = w.none s
-  run-over s (suc c) h = absurd (omega arith)
+  pub run_over : (s c : ℕ) → c ≤ 0 → run s c ≡ true
+  run_over s zero h = w.none s
+  run_over s (suc c) h = absurd (omega arith)
 
 pub run_empty : (s : ℕ) → run_exists s 0 ≡ true
-run_empty s = exists-steps.none s
+run_empty s = exists_steps.none s
 
 -- the first register of a run, and the run behind it
-run-first : (s c : ℕ) → run_exists s (suc c) ≡ true → (exists s ≡ true) × (run_exists (suc s) c ≡ true)
+run_first : (s c : ℕ) → run_exists s (suc c) ≡ true → (exists s ≡ true) × (run_exists (suc s) c ≡ true)
 unfolding run_exists
-run-first s c r = both_true (exists s) (run_exists (suc s) c) r
+run_first s c r = both_true (exists s) (run_exists (suc s) c) r
 
 later : (s i : ℕ) → suc s + i ≡ s + suc i
 later s i = omega arith
 
 pub run_at : (s c i : ℕ) → run_exists s c ≡ true → i < c → exists (s + i) ≡ true
 run_at s zero i r h = absurd (omega arith)
-run_at s (suc c) zero r h = rw (add-zero s) (run-first s c r).0
-run_at s (suc c) (suc i) r h = rw (← later s i) (run_at (suc s) c i (run-first s c r).1 (omega arith))
+run_at s (suc c) zero r h = rw (add-zero s) (run_first s c r).0
+run_at s (suc c) (suc i) r h = rw (← later s i) (run_at (suc s) c i (run_first s c r).1 (omega arith))
 
-pub run-places : (s c i : ℕ) → run_exists s c ≡ true → i < c → place_of (s + i) ≡ place_of s + i
-run-places s c zero r h = rw (add-zero s, add-zero (place_of s))
-run-places s c (suc i) r h =
+pub run_places : (s c i : ℕ) → run_exists s c ≡ true → i < c → place_of (s + i) ≡ place_of s + i
+run_places s c zero r h = rw (add-zero s, add-zero (place_of s))
+run_places s c (suc i) r h =
     let before : i < c = omega arith in
     let next : exists (suc (s + i)) ≡ true = rw (← add-suc s i) (run_at s c (suc i) r h) in
-    rw (add-suc s i, add-suc (place_of s) i) (place-next (s + i) (run_at s c i r before) next ∙ ap suc (run-places s c i r before))
+    rw (add-suc s i, add-suc (place_of s) i) (place_next (s + i) (run_at s c i r before) next ∙ ap suc (run_places s c i r before))
 
 -- a number from a first to a last one
 module _ (first last n : ℕ) (within : from_to first last n ≡ true) where
@@ -80,19 +80,19 @@ module _ (first last n : ℕ) (within : from_to first last n ≡ true) where
   pub place_within : run_exists first (suc last - first) ≡ true → place_of first + (n - first) ≡ place_of n
   place_within r =
       let at : first + (n - first) ≡ n = omega (arith, from_first) in
-      sym (run-places first (suc last - first) (n - first) r (omega (arith, from_first, to_last))) ∙ ap place_of at
+      sym (run_places first (suc last - first) (n - first) r (omega (arith, from_first, to_last))) ∙ ap place_of at
 
 pub run_room : (s c : ℕ) → run_exists s c ≡ true → place_of s + c ≤ table_length
-run_room s zero r = rw (add-zero (place_of s)) (place-most s)
+run_room s zero r = rw (add-zero (place_of s)) (place_most s)
 run_room s (suc c) r =
     let last : c < suc c = omega arith in
-    omega (arith, place_bound (s + c) (run_at s (suc c) c r last), run-places s (suc c) c r last)
+    omega (arith, place_bound (s + c) (run_at s (suc c) c r last), run_places s (suc c) c r last)
 
 run_less : (s c d : ℕ) → run_exists s (c + d) ≡ true → run_exists s c ≡ true
 unfolding run_exists
 run_less s zero d r = refl
 run_less s (suc c) d r =
-    let both = run-first s (c + d) (rw (suc-add c d) at r) in
+    let both = run_first s (c + d) (rw (suc-add c d) at r) in
     rw both.0 (run_less (suc s) c d both.1)
 
 pub run_bound : (s c : ℕ) → run_exists s c ≡ true → c ≤ 8
@@ -104,7 +104,7 @@ run_bound s c r = go (leb c 8) refl
         let long : 8 < c = leb-false c 8 e in
         let more : c ≡ 9 + (c - 9) = omega arith in
         let nine : run_exists s 9 ≡ true = run_less s 9 (c - 9) (subst (λ (n : ℕ). run_exists s n ≡ true) more r) in
-        absurd (true≢false (sym nine ∙ no_nine s (run-first s 8 nine).0))
+        absurd (true≢false (sym nine ∙ no_nine s (run_first s 8 nine).0))
 
 pub longest_run : LongestRun
 unfolding run_exists exists place_of table_length
@@ -117,10 +117,10 @@ run_past s c i h past = go (run_exists s c) refl
     go true r = absurd (omega (arith, number_bound (s + i) (run_at s c i r h)))
     go false r = r
 
-pub length-reads : (t : List ℕ) (s c : ℕ) → length (reads t s c) ≡ c
+pub length_reads : (t : List ℕ) (s c : ℕ) → length (reads t s c) ≡ c
 unfolding reads
-length-reads t s zero = refl
-length-reads t s (suc c) = ap suc (length-reads t (suc s) c)
+length_reads t s zero = refl
+length_reads t s (suc c) = ap suc (length_reads t (suc s) c)
 
 pub reads_at : (t : List ℕ) (s c i : ℕ) → i < c → get_or (reads t s c) i 0 ≡ get_or t (place_of (s + i)) 0
 unfolding reads
@@ -129,54 +129,54 @@ reads_at t s (suc c) zero h = rw (add-zero s)
 reads_at t s (suc c) (suc i) h = rw (← later s i) (reads_at t (suc s) c i (omega arith))
 
 -- in a table of the right length the values of a run stand next to each other
-pub reads-run : (t : List ℕ) (s c : ℕ) → run_exists s c ≡ true → length t ≡ table_length → reads t s c ≡ take c (drop (place_of s) t)
+pub reads_run : (t : List ℕ) (s c : ℕ) → run_exists s c ≡ true → length t ≡ table_length → reads t s c ≡ take c (drop (place_of s) t)
 unfolding reads
-reads-run t s zero r long = refl
-reads-run t s (suc zero) r long = rw (drop-cons t (place_of s) 0 (omega (arith, place_bound s (run-first s 0 r).0)))
-reads-run t s (suc (suc c)) r long =
-    let one = run-first s (suc c) r in
-    let two = run-first (suc s) c one.1 in
-    rw (reads-run t (suc s) (suc c) one.1 long, place-next s one.0 two.0, drop-cons t (place_of s) 0 (omega (arith, place_bound s one.0)))
+reads_run t s zero r long = refl
+reads_run t s (suc zero) r long = rw (drop-cons t (place_of s) 0 (omega (arith, place_bound s (run_first s 0 r).0)))
+reads_run t s (suc (suc c)) r long =
+    let one = run_first s (suc c) r in
+    let two = run_first (suc s) c one.1 in
+    rw (reads_run t (suc s) (suc c) one.1 long, place_next s one.0 two.0, drop-cons t (place_of s) 0 (omega (arith, place_bound s one.0)))
 
-pub length-writes : (t : List ℕ) (s : ℕ) (vs : List ℕ) → length (writes t s vs) ≡ length t
+pub length_writes : (t : List ℕ) (s : ℕ) (vs : List ℕ) → length (writes t s vs) ≡ length t
 unfolding writes
-length-writes t s [] = refl
-length-writes t s (v ∷ vs) = length-writes (set t (place_of s) v) (suc s) vs ∙ length-set t (place_of s) v
+length_writes t s [] = refl
+length_writes t s (v ∷ vs) = length_writes (set t (place_of s) v) (suc s) vs ∙ length-set t (place_of s) v
 
-pub writes-run : (t : List ℕ) (s : ℕ) (vs : List ℕ) → run_exists s (length vs) ≡ true → writes t s vs ≡ sets t (place_of s) vs
+pub writes_run : (t : List ℕ) (s : ℕ) (vs : List ℕ) → run_exists s (length vs) ≡ true → writes t s vs ≡ sets t (place_of s) vs
 unfolding writes
-writes-run t s [] r = refl
-writes-run t s (v ∷ []) r = refl
-writes-run t s (v ∷ w ∷ vs) r =
-    let one = run-first s (suc (length vs)) r in
-    let two = run-first (suc s) (length vs) one.1 in
-    writes-run (set t (place_of s) v) (suc s) (w ∷ vs) one.1
-    ∙ ap (λ (p : ℕ). sets (set t (place_of s) v) p (w ∷ vs)) (place-next s one.0 two.0)
+writes_run t s [] r = refl
+writes_run t s (v ∷ []) r = refl
+writes_run t s (v ∷ w ∷ vs) r =
+    let one = run_first s (suc (length vs)) r in
+    let two = run_first (suc s) (length vs) one.1 in
+    writes_run (set t (place_of s) v) (suc s) (w ∷ vs) one.1
+    ∙ ap (λ (p : ℕ). sets (set t (place_of s) v) p (w ∷ vs)) (place_next s one.0 two.0)
 
-pub writes-keeps : (t : List ℕ) (s : ℕ) (vs : List ℕ) (j : ℕ) → ((i : ℕ) → i < length vs → j ≡ place_of (s + i) → ⊥) →
+pub writes_keeps : (t : List ℕ) (s : ℕ) (vs : List ℕ) (j : ℕ) → ((i : ℕ) → i < length vs → j ≡ place_of (s + i) → ⊥) →
     get_or (writes t s vs) j 0 ≡ get_or t j 0
 unfolding writes
-writes-keeps t s [] j other = refl
-writes-keeps t s (v ∷ vs) j other =
-    writes-keeps (set t (place_of s) v) (suc s) vs j (λ i h e. other (suc i) (omega arith) (e ∙ ap place_of (later s i)))
+writes_keeps t s [] j other = refl
+writes_keeps t s (v ∷ vs) j other =
+    writes_keeps (set t (place_of s) v) (suc s) vs j (λ i h e. other (suc i) (omega arith) (e ∙ ap place_of (later s i)))
     ∙ get_or-set_other t (place_of s) j v 0 (λ e. other 0 (omega arith) (e ∙ ap place_of (sym (add-zero s))))
 
-pub writes-holds : (t : List ℕ) (s : ℕ) (vs : List ℕ) (i : ℕ) → run_exists s (length vs) ≡ true → length t ≡ table_length → i < length vs →
+pub writes_holds : (t : List ℕ) (s : ℕ) (vs : List ℕ) (i : ℕ) → run_exists s (length vs) ≡ true → length t ≡ table_length → i < length vs →
     get_or (writes t s vs) (place_of (s + i)) 0 ≡ get_or vs i 0
 unfolding writes
-writes-holds t s [] i r long h = absurd (omega arith)
-writes-holds t s (v ∷ vs) zero r long h =
-    let one = run-first s (length vs) r in
+writes_holds t s [] i r long h = absurd (omega arith)
+writes_holds t s (v ∷ vs) zero r long h =
+    let one = run_first s (length vs) r in
     rw (add-zero s)
-    (writes-keeps (set t (place_of s) v) (suc s) vs (place_of s)
+    (writes_keeps (set t (place_of s) v) (suc s) vs (place_of s)
     (λ i k e. apart s i (place_apart s (suc s + i) one.0 (run_at (suc s) (length vs) i one.1 k) e))
     ∙ get_or-set_same t (place_of s) v 0 (omega (arith, place_bound s one.0)))
   where
     apart : (s i : ℕ) → s ≡ suc s + i → ⊥
     apart s i e = omega arith
-writes-holds t s (v ∷ vs) (suc i) r long h =
+writes_holds t s (v ∷ vs) (suc i) r long h =
     rw (← later s i)
-    (writes-holds (set t (place_of s) v) (suc s) vs i (run-first s (length vs) r).1 (length-set t (place_of s) v ∙ long) (omega arith))
+    (writes_holds (set t (place_of s) v) (suc s) vs i (run_first s (length vs) r).1 (length-set t (place_of s) v ∙ long) (omega arith))
 
 pub kept_in_range : (t u w : List ℕ) → KeptOrInRange t u → KeptOrInRange u w → KeptOrInRange t w
 kept_in_range t u w first second n there = go (first n there) (second n there)
@@ -203,7 +203,7 @@ set_in_range t s v good n there = go (eqb n s) refl
         (get_or (set t (place_of s) v) (place_of n) 0 ≡ get_or t (place_of n) 0) ⊎ (takes n (get_or (set t (place_of s) v) (place_of n) 0) ≡ true)
     go true e = rw (eqb-true n s e) (same (set_or_kept t (place_of s) v))
     go false e =
-        inl (get_or-set_other t (place_of s) (place_of n) v 0 (λ k. eqb-false n s e (place_apart n s there (taken-exists s v good) k)))
+        inl (get_or-set_other t (place_of s) (place_of n) v 0 (λ k. eqb-false n s e (place_apart n s there (taken_exists s v good) k)))
 
 pub writes_in_range : WritesInRange
 unfolding writes run_takes

@@ -12,7 +12,7 @@ pub both_true : (a b : Bool) → (a && b) ≡ true → (a ≡ true) × (b ≡ tr
 both_true true b e = (refl, e)
 both_true false b e = absurd (false≢true e)
 
-pub every-at : (f : ℕ → Bool) (l : List ℕ) → every f l ≡ true → (i : ℕ) → i < length l → f (get_or l i 0) ≡ true
-every-at f [] e i h = absurd (omega arith)
-every-at f (x ∷ xs) e zero h = (both_true (f x) (every f xs) e).0
-every-at f (x ∷ xs) e (suc i) h = every-at f xs (both_true (f x) (every f xs) e).1 i (omega arith)
+pub every_at : (f : ℕ → Bool) (l : List ℕ) → every f l ≡ true → (i : ℕ) → i < length l → f (get_or l i 0) ≡ true
+every_at f [] e i h = absurd (omega arith)
+every_at f (x ∷ xs) e zero h = (both_true (f x) (every f xs) e).0
+every_at f (x ∷ xs) e (suc i) h = every_at f xs (both_true (f x) (every f xs) e).1 i (omega arith)

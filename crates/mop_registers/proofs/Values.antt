@@ -25,6 +25,6 @@ module _ (bytes : List ℕ) (i : ℕ) where
     unfolding run_takes
     takes_off h t = rw (words_next bytes i h, t)
 
-    pub takes-over : length bytes - i ≤ 1 → run_takes n (words_of (drop i bytes)) ≡ true
+    pub takes_over : length bytes - i ≤ 1 → run_takes n (words_of (drop i bytes)) ≡ true
     unfolding run_takes
-    takes-over h = rw (words_none (drop i bytes) (rw length-drop h))
+    takes_over h = rw (words_none (drop i bytes) (rw length-drop h))

@@ -10,7 +10,7 @@ use Rattle.base.proofs.Choice.{pick_either}
 use Rattle.mop_header.specs.Header.{Head, body_of}
 use Rattle.mop_reader.specs.Reading.{Reading, sound, faulty, reading}
 use Rattle.mop_reader.specs.declared.Reader.TheVariants.{Station}
-use Rattle.mop_step.proofs.Safety.{step_keeps, step-only}
+use Rattle.mop_step.proofs.Safety.{step_keeps, step_only}
 use Rattle.mop_step.specs.Step.{Stepped, relays, answers, not_mine, refuses, is_station, stepping}
 use Rattle.mop_step.specs.Safety.{UnlessAnswered, CarriesOut}
 use Rattle.mop_station.specs.Station.{Handling, sending_by, hearing, handling}
@@ -32,9 +32,9 @@ hear_keeps (sound h) own telegram t out =
     let s = stepping own h body t (length out) in
     send_keeps s.stepped body s.registers t out (step_keeps own h body t (length out))
 
-pub refused-keeps-all : RefusedKeepsAll
+pub refused_keeps_all : RefusedKeepsAll
 unfolding handling
-refused-keeps-all own t telegram out =
+refused_keeps_all own t telegram out =
     pick_either (λ r. Kept r t out) (not (is_station own t)) (refl, refl) (hear_keeps (reading Station telegram) own telegram t out)
 
 -- sending leaves the registers as the step does
@@ -60,10 +60,10 @@ module _ (own : ℕ) (t telegram out : List ℕ) where
   hear_only (sound h) e =
       let body = body_of h telegram in
       let s = stepping own h body t (length out) in
-      carried_by h e (send_registers s.stepped body s.registers out) (step-only own h body t (length out))
+      carried_by h e (send_registers s.stepped body s.registers out) (step_only own h body t (length out))
 
-pub only-destination-writes : OnlyDestinationWrites
+pub only_destination_writes : OnlyDestinationWrites
 unfolding handling
-only-destination-writes own t telegram out =
+only_destination_writes own t telegram out =
     pick_either (OnlyHere own t telegram out) (not (is_station own t)) (inl refl)
     (hear_only own t telegram out (reading Station telegram) refl)

@@ -21,9 +21,9 @@ module _ (own : ℕ) (t telegram out : List ℕ) where
     unfolding handling
     set_up e = rw (set, e)
 
-    pub heard-faulty : (k : ℕ) → reading Station telegram ≡ faulty k → handling own t telegram out ≡ leaving (refuses k) t out
+    pub heard_faulty : (k : ℕ) → reading Station telegram ≡ faulty k → handling own t telegram out ≡ leaving (refuses k) t out
     unfolding handling hearing
-    heard-faulty k e = rw (set, e)
+    heard_faulty k e = rw (set, e)
 
     pub heard : (h : Head) → reading Station telegram ≡ sound h →
         handling own t telegram out ≡ taking (stepping own h (body_of h telegram) t (length out)) (body_of h telegram) out

@@ -15,13 +15,13 @@ use Rattle.mop_body.specs.Body.{read_start, read_count, write_start, write_count
 use Rattle.mop_step.specs.Body.{Acceptance, accepts, rejects, judged_runs, judged_body}
 
 module _ (rStart rCount wStart wCount : ℕ) (values : List ℕ) where
-  pub no-read-run : run_exists rStart rCount ≡ false → judged_runs rStart rCount wStart wCount values ≡ rejects 8
+  pub no_read_run : run_exists rStart rCount ≡ false → judged_runs rStart rCount wStart wCount values ≡ rejects 8
   unfolding judged_runs
-  no-read-run e = rw e
+  no_read_run e = rw e
 
-  pub no-write-run : run_exists wStart wCount ≡ false → judged_runs rStart rCount wStart wCount values ≡ rejects 8
+  pub no_write_run : run_exists wStart wCount ≡ false → judged_runs rStart rCount wStart wCount values ≡ rejects 8
   unfolding judged_runs
-  no-write-run e = rw (e, and-false (run_exists rStart rCount))
+  no_write_run e = rw (e, and-false (run_exists rStart rCount))
 
   module _ (read : run_exists rStart rCount ≡ true) (write : run_exists wStart wCount ≡ true) where
     pub not_writable : run_may_write wStart wCount ≡ false → judged_runs rStart rCount wStart wCount values ≡ rejects 9
@@ -38,8 +38,8 @@ module _ (rStart rCount wStart wCount : ℕ) (values : List ℕ) where
       runs_accepted e = rw (read, write, may, e)
 
 -- a body that is too short for its counts has no write count
-short-count : (body : List ℕ) → length body < 6 → write_count body ≡ 0
-short-count body h = get_or-eq_default body 0 (omega arith)
+short_count : (body : List ℕ) → length body < 6 → write_count body ≡ 0
+short_count body h = get_or-eq_default body 0 (omega arith)
 
 module _ (body : List ℕ) where
   pub wrong_length : (length body ≡ 6 + 2 * write_count body → ⊥) → judged_body body ≡ rejects 7
@@ -47,7 +47,7 @@ module _ (body : List ℕ) where
   wrong_length e = rw (ne_eqb (length body) (6 + 2 * write_count body) e)
 
   pub short_body : length body < 6 → judged_body body ≡ rejects 7
-  short_body h = wrong_length (λ e. omega (arith, short-count body h))
+  short_body h = wrong_length (λ e. omega (arith, short_count body h))
 
   pub right_length : length body ≡ 6 + 2 * write_count body →
       judged_body body ≡ judged_runs (read_start body) (read_count body) (write_start body) (write_count body) (values_of body)
@@ -62,12 +62,12 @@ pub record Accepted (body : List ℕ) : Type 0 where
   pub writable : run_may_write (write_start body) (write_count body) ≡ true
   pub in_range : run_takes (write_start body) (values_of body) ≡ true
 
-pub rejects-accepts : {v : Acceptance} {k : ℕ} → v ≡ rejects k → v ≡ accepts → ⊥
-rejects-accepts e f = let z : ◌≡◌ {A = ℕ} 0 1 = cc in omega arith
+pub rejects_accepts : {v : Acceptance} {k : ℕ} → v ≡ rejects k → v ≡ accepts → ⊥
+rejects_accepts e f = let z : ◌≡◌ {A = ℕ} 0 1 = cc in omega arith
 
 passed : (t : Bool) (k : ℕ) (rest : Acceptance) → pick (not t) (rejects k) rest ≡ accepts → (t ≡ true) × (rest ≡ accepts)
 passed true k rest e = (refl, e)
-passed false k rest e = absurd (rejects-accepts refl e)
+passed false k rest e = absurd (rejects_accepts refl e)
 
 pub accepted : (body : List ℕ) → judged_body body ≡ accepts → Accepted body
 unfolding judged_body judged_runs
@@ -94,18 +94,18 @@ numbered k = leb 7 k && leb k 10
 abbrev Numbered : Acceptance → Type 0
 Numbered v = (k : ℕ) → v ≡ rejects k → numbered k ≡ true
 
-rejects-number : (n : ℕ) → numbered n ≡ true → Numbered (rejects n)
-rejects-number n t k e = let same : n ≡ k = cc in rw (← same) t
+rejects_number : (n : ℕ) → numbered n ≡ true → Numbered (rejects n)
+rejects_number n t k e = let same : n ≡ k = cc in rw (← same) t
 
-accepts-none : Numbered accepts
-accepts-none k e = let z : ◌≡◌ {A = ℕ} 0 1 = cc in absurd (omega arith)
+accepts_none : Numbered accepts
+accepts_none k e = let z : ◌≡◌ {A = ℕ} 0 1 = cc in absurd (omega arith)
 
-pub rejected-number : (body : List ℕ) (k : ℕ) → judged_body body ≡ rejects k → (leb 7 k && leb k 10) ≡ true
+pub rejected_number : (body : List ℕ) (k : ℕ) → judged_body body ≡ rejects k → (leb 7 k && leb k 10) ≡ true
 unfolding judged_body judged_runs
-rejected-number body =
+rejected_number body =
     let start = write_start body in
     let count = write_count body in
-    pick_either Numbered (not (eqb (length body) (6 + 2 * count))) (rejects-number 7 refl)
-    (pick_either Numbered (not (run_exists (read_start body) (read_count body) && run_exists start count)) (rejects-number 8 refl)
-    (pick_either Numbered (not (run_may_write start count)) (rejects-number 9 refl)
-    (pick_either Numbered (not (run_takes start (values_of body))) (rejects-number 10 refl) accepts-none)))
+    pick_either Numbered (not (eqb (length body) (6 + 2 * count))) (rejects_number 7 refl)
+    (pick_either Numbered (not (run_exists (read_start body) (read_count body) && run_exists start count)) (rejects_number 8 refl)
+    (pick_either Numbered (not (run_may_write start count)) (rejects_number 9 refl)
+    (pick_either Numbered (not (run_takes start (values_of body))) (rejects_number 10 refl) accepts_none)))

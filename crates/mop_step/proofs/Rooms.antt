@@ -54,8 +54,8 @@ module _ (own : ℕ) (h : Head) (body t reply : List ℕ) (room : ℕ) where
 
   -- what a call of the step says of the step, by what it gave
   module _ (r : StationStep) (slice after buffer : List ℕ) (call : step_call_of r slice after buffer ≡ lending (stepping own h body t room) t reply) where
-    pub answer-places : {g : Header} {n : ℕ} → r ≡ Answered g n → n ≤ max_reply
-    answer-places e =
+    pub answer_places : {g : Header} {n : ℕ} → r ≡ Answered g n → n ≤ max_reply
+    answer_places e =
         subst (λ (x : StationStep). (step_call_of x slice after buffer).count ≤ max_reply) e (subst (λ (x : StepCall). x.count ≤ max_reply) (sym call) lent_count)
 
     module _ (places : max_reply ≤ length reply) where

@@ -27,8 +27,8 @@ lent_keeps (answers h body) after t reply e = pick_either (λ s. StepKept s t re
 lent_keeps not_mine after t reply e = (e, refl)
 lent_keeps (refuses k) after t reply e = (e, refl)
 
-pub step-refused-keeps-all : StepRefusedKeepsAll
-step-refused-keeps-all own h body t room reply =
+pub step_refused_keeps_all : StepRefusedKeepsAll
+step_refused_keeps_all own h body t room reply =
     let s = stepping own h body t room in
     lent_keeps s.stepped s.registers t reply (step_keeps own h body t room)
 
@@ -37,8 +37,8 @@ module _ (own : ℕ) (h : Head) (body t : List ℕ) (room : ℕ) where
   abbrev pub Only : List ℕ → Type 0
   Only after = (after ≡ t) ⊎ CarriesOut own h body t after
 
-  pub step-only : Only (stepping own h body t room).registers
-  step-only = step_either own h body t room (λ (s : Step). Only s.registers) (λ k. inl refl) (λ l. inl refl) (λ c l. inr c) (inl refl)
+  pub step_only : Only (stepping own h body t room).registers
+  step_only = step_either own h body t room (λ (s : Step). Only s.registers) (λ k. inl refl) (λ l. inl refl) (λ c l. inr c) (inl refl)
 
   lent_only : (reply : List ℕ) → Only (lending (stepping own h body t room) t reply).made.registers
   unfolding lending
@@ -46,5 +46,5 @@ module _ (own : ℕ) (h : Head) (body t : List ℕ) (room : ℕ) where
       step_either own h body t room (λ (s : Step). Only (lending s t reply).made.registers) (λ k. inl refl) (λ l. inl refl)
       (λ c l. pick_either (λ (x : StepCall). Only x.made.registers) (ltb (length reply) (length (reply_body body (after_writes body t)))) (inl refl) (inr c)) (inl refl)
 
-pub step-only-destination-writes : StepOnlyDestinationWrites
-step-only-destination-writes = lent_only
+pub step_only_destination_writes : StepOnlyDestinationWrites
+step_only_destination_writes = lent_only

@@ -12,9 +12,9 @@ use Rattle.mop_block.specs.Block.{is_address}
 use Rattle.mop_step.specs.Step.{is_station}
 
 -- an own address and a table of the right length
-pub is-station : (own : ℕ) (t : List ℕ) → is_address own ≡ true → length t ≡ table_length → is_station own t ≡ true
+pub is_station_lem : (own : ℕ) (t : List ℕ) → is_address own ≡ true → length t ≡ table_length → is_station own t ≡ true
 unfolding is_station
-is-station own t a l = rw (a, eq-eqb (length t) table_length l)
+is_station_lem own t a l = rw (a, eq-eqb (length t) table_length l)
 
 pub station_table : (own : ℕ) (t : List ℕ) → is_station own t ≡ true → length t ≡ table_length
 unfolding is_station

@@ -12,7 +12,7 @@ use Rattle.mop_block.specs.Block.{first, next}
 use Rattle.mop_header.specs.Header.{Head, header_length, telegram_of}
 use Rattle.mop_header.specs.declared.Function.{Function}
 use Rattle.mop_header.specs.declared.Function.TheVariants.{Request, Reply}
-use Rattle.mop_header.proofs.Writing.{length-telegram}
+use Rattle.mop_header.proofs.Writing.{length_telegram}
 use Rattle.mop_step.specs.Body.{accepts, judged_body, after_writes, reply_body}
 use Rattle.mop_step.specs.Step.{relays, answers, not_mine, refuses, Step, step, is_station, if_room, relayed, relaying, replied, answering, acting, stepping, step_call, lending}
 
@@ -36,28 +36,28 @@ module _ (h : Head) (body t : List ℕ) (room : ℕ) where
     unfolding relaying
     relay_sent l = rw (← e) (some_room room (telegram_of on body) t (step (relays on) t) l)
 
-  pub answer-short : room < length (telegram_of (replied h) (reply_body body (after_writes body t))) → answering accepts h body t room ≡ step (refuses 11) t
+  pub answer_short : room < length (telegram_of (replied h) (reply_body body (after_writes body t))) → answering accepts h body t room ≡ step (refuses 11) t
   unfolding answering
-  answer-short l = no_room room (telegram_of (replied h) (reply_body body (after_writes body t))) t _ l
+  answer_short l = no_room room (telegram_of (replied h) (reply_body body (after_writes body t))) t _ l
 
-  pub answer-sent : length (telegram_of (replied h) (reply_body body (after_writes body t))) ≤ room →
+  pub answer_sent : length (telegram_of (replied h) (reply_body body (after_writes body t))) ≤ room →
       answering accepts h body t room ≡ step (answers (replied h) (reply_body body (after_writes body t))) (after_writes body t)
   unfolding answering
-  answer-sent l = some_room room (telegram_of (replied h) (reply_body body (after_writes body t))) t _ l
+  answer_sent l = some_room room (telegram_of (replied h) (reply_body body (after_writes body t))) t _ l
 
   -- by the function and the entry behind the own one
-  behind-station : (n : ℕ) → (n ≡ 0 → ⊥) → acting Request n h body t room ≡ relaying h body t room
+  behind_station : (n : ℕ) → (n ≡ 0 → ⊥) → acting Request n h body t room ≡ relaying h body t room
   unfolding acting
-  behind-station zero z = absurd (z refl)
-  behind-station (suc n) z = refl
+  behind_station zero z = absurd (z refl)
+  behind_station (suc n) z = refl
 
   module _ {f : Function} {n : ℕ} where
-    pub to-destination : f ≡ Request → n ≡ 0 → acting f n h body t room ≡ answering (judged_body body) h body t room
+    pub to_destination : f ≡ Request → n ≡ 0 → acting f n h body t room ≡ answering (judged_body body) h body t room
     unfolding acting
-    to-destination e z = rw (e, z)
+    to_destination e z = rw (e, z)
 
     pub to_relay : f ≡ Request → (n ≡ 0 → ⊥) → acting f n h body t room ≡ relaying h body t room
-    to_relay e z = rw e (behind-station n z)
+    to_relay e z = rw e (behind_station n z)
 
   pub reply_to_relay : {f : Function} (n : ℕ) → f ≡ Reply → acting f n h body t room ≡ relaying h body t room
   unfolding acting
@@ -65,9 +65,9 @@ module _ (h : Head) (body t : List ℕ) (room : ℕ) where
 
 -- by the own address and the table, then by the first entry
 module _ (own : ℕ) (h : Head) (body t : List ℕ) (room : ℕ) where
-  pub no-station : is_station own t ≡ false → stepping own h body t room ≡ step (refuses 1) t
+  pub no_station : is_station own t ≡ false → stepping own h body t room ≡ step (refuses 1) t
   unfolding stepping
-  no-station e = rw e
+  no_station e = rw e
 
   module _ (set : is_station own t ≡ true) where
     pub for_another : (first h.block ≡ own → ⊥) → stepping own h body t room ≡ step not_mine t
@@ -81,10 +81,10 @@ module _ (own : ℕ) (h : Head) (body t : List ℕ) (room : ℕ) where
 -- by what was found of the room
 module _ (g : Head) (body : List ℕ) (room : ℕ) {n : ℕ} {fits : Bool} (size : n ≡ length body) (found : fits ≡ leb (header_length g + n) room) where
   pub short_by : not fits ≡ true → room < length (telegram_of g body)
-  short_by e = rw (length-telegram g body, ← size) (leb-false (header_length g + n) room (sym found ∙ not-true fits e))
+  short_by e = rw (length_telegram g body, ← size) (leb-false (header_length g + n) room (sym found ∙ not-true fits e))
 
   pub room_by : not fits ≡ false → length (telegram_of g body) ≤ room
-  room_by e = rw (length-telegram g body, ← size) (leb-true (header_length g + n) room (sym found ∙ not-false fits e))
+  room_by e = rw (length_telegram g body, ← size) (leb-true (header_length g + n) room (sym found ∙ not-false fits e))
 
 -- an answer, by the places of the buffer for its body
 module _ (g : Head) (body after t reply : List ℕ) where

@@ -22,9 +22,9 @@ module _ (tg addresses tables out : List ℕ) where
     too_long h = rw (set, lt-ltb max_telegram (length tg) h)
 
     module _ (short : length tg ≤ max_telegram) where
-      pub output-short : length out < run_output → dry_run tg addresses tables out ≡ leaves (outright 11) tables out
+      pub output_short : length out < run_output → dry_run tg addresses tables out ≡ leaves (outright 11) tables out
       unfolding dry_run
-      output-short h = rw (set, le-ltb max_telegram (length tg) short, lt-ltb (length out) run_output h)
+      output_short h = rw (set, le-ltb max_telegram (length tg) short, lt-ltb (length out) run_output h)
 
       -- by what reading gave
       pub run_by : run_output ≤ length out → {r : Reading} → r ≡ reading Station tg → dry_run tg addresses tables out ≡ run_of r tg addresses tables out

@@ -13,7 +13,7 @@ use Rattle.mop_header.specs.declared.Header.{Header}
 use Rattle.mop_reader.specs.Reading.{sound, reading}
 use Rattle.mop_header.specs.declared.Function.TheVariants.{Reply}
 use Rattle.mop_reader.specs.declared.Reader.TheVariants.{Station}
-use Rattle.mop_reader.proofs.ReadBack.{is-written}
+use Rattle.mop_reader.proofs.ReadBack.{is_written}
 use Rattle.mop_station.specs.Station.{Handled, sent, not_mine, refuses}
 use Rattle.net_journey.specs.Net.{Net}
 use Rattle.net_journey.specs.Journey.{Ending, at_zero, Handler, no_station, station, handler, Course, onward, left_by}
@@ -25,7 +25,7 @@ use Rattle.net_dry_run.specs.DryRun.{played, leaves, padded, of_course}
 use Rattle.net_dry_run.specs.Private.Legs.{Summary, summary_of, summary_from, LegEnds, LegTurns, Leads, of_summary}
 use Rattle.net_dry_run.specs.declared.Halt.{Halt}
 use Rattle.net_hop.proofs.Tables.{same_tables}
-use Rattle.net_hop.proofs.Lent.{whole-telegram}
+use Rattle.net_hop.proofs.Lent.{whole_telegram}
 use Rattle.net_hop.proofs.Hops.{Goes, GoesOn, TurnsBack, Ends}
 
 -- whatever is played has a transmission
@@ -45,17 +45,17 @@ unfolding playing
 played_some zero net tg = omega arith
 played_some (suc k) net tg = heard_some (playing k) net tg (handler net tg)
 
-last-later : (tg : List ℕ) (later : List (List ℕ)) → 1 ≤ length later → last_telegram (tg ∷ later) ≡ last_telegram later
+last_later : (tg : List ℕ) (later : List (List ℕ)) → 1 ≤ length later → last_telegram (tg ∷ later) ≡ last_telegram later
 unfolding last_telegram
-last-later tg [] h = absurd (omega arith)
-last-later tg (next ∷ later) h = refl
+last_later tg [] h = absurd (omega arith)
+last_later tg (next ∷ later) h = refl
 
 -- one more transmission was made
 summary_onward : (gone n : ℕ) (tg : List ℕ) (rest : Course) → 1 ≤ length rest.transmissions →
     summary_of gone (onward tg n rest) ≡ summary_of (gone + 1) rest
 summary_onward gone n tg rest some =
     ap₂ (λ (x : ℕ) (l : List ℕ). record { count = x; last = l; ending = rest.ending; net = rest.after })
-    (one_more gone (length rest.transmissions)) (last-later tg rest.transmissions some)
+    (one_more gone (length rest.transmissions)) (last_later tg rest.transmissions some)
   where
     one_more : (x l : ℕ) → x + suc l ≡ x + 1 + l
     one_more x l = omega arith
@@ -79,7 +79,7 @@ module _ {addresses places tables₀ : List ℕ} {before : ℕ} {h₀ : Head} {b
 
   module _ {tables : List ℕ} {gone : ℕ} {h : Head} (o : Onward addresses places tables₀ before h₀ body tables gone h) where
     short : length (telegram_of h body) ≤ 1024
-    short = (is-written Station (telegram_of h body) h o.way.order).short
+    short = (is_written Station (telegram_of h body) h o.way.order).short
 
     module _ (left : gone < most_transmissions) where
       abbrev calls : ℕ
@@ -169,5 +169,5 @@ module _ (read : Header) (tg addresses tables : List ℕ) (order : reading Stati
       ≡ of_course (playing most_transmissions (net_of addresses tables) tg) out
   unfolding of_course
   whole_run out =
-      ap (λ (l : List ℕ). of_summary (summary_of 0 (playing most_transmissions (net_of addresses tables) l)) out) (whole-telegram read tg order begins long)
+      ap (λ (l : List ℕ). of_summary (summary_of 0 (playing most_transmissions (net_of addresses tables) l)) out) (whole_telegram read tg order begins long)
       ∙ rw (zero-add (length (playing most_transmissions (net_of addresses tables) tg).transmissions))

@@ -12,7 +12,7 @@ use Rattle.base.specs.Filling.{Filling}
 use Rattle.mop_block.specs.Block.{stations, first}
 use Rattle.mop_block.specs.Zipper.{zeros, spread, Full, nil, cons, Once}
 use Rattle.mop_block.proofs.Counts.{distinct_once}
-use Rattle.mop_block.proofs.Stations.{distinct_full, stations_full, stations-spread}
+use Rattle.mop_block.proofs.Stations.{distinct_full, stations_full, stations_spread}
 use Rattle.mop_block.proofs.Zipper.{last_zero, view_is_good}
 use Rattle.mop_header.specs.Header.{Head, head, mark_byte, mark_is, mark_agrees, new_control}
 use Rattle.mop_reader.specs.Reading.{allowed, good_for}
@@ -21,15 +21,15 @@ use Rattle.mop_header.specs.declared.Function.TheVariants.{Request}
 use Rattle.mop_header.specs.declared.Form.{Form}
 use Rattle.mop_header.specs.declared.Form.TheVariants.{Standard, Extended}
 use Rattle.mop_reader.specs.declared.Reader.TheVariants.{Station}
-use Rattle.mop_reader.proofs.ReadBack.{reads-back}
+use Rattle.mop_reader.proofs.ReadBack.{reads_back}
 use Rattle.mop_body.specs.Body.{read_start, read_count, write_start, write_count, values_of, request_body}
-use Rattle.mop_body.proofs.Bodies.{read-start-back, read-count-back, write-start-back, write-count-back, values-back, length_request_body}
+use Rattle.mop_body.proofs.Bodies.{read_start_back, read_count_back, write_start_back, write_count_back, values_back, length_request_body}
 use Rattle.mop_centre.specs.Request.{request_head, request_telegram, max_run}
-use Rattle.mop_centre.proofs.Routes.{Route, route-parts, standard_head, extended_head}
-use Rattle.mop_centre.proofs.Requests.{request-fitted, wrote, request-most}
-use Rattle.base.proofs.Filling.{fitted-room}
+use Rattle.mop_centre.proofs.Routes.{Route, route_parts, standard_head, extended_head}
+use Rattle.mop_centre.proofs.Requests.{request_fitted, wrote, request_most}
+use Rattle.base.proofs.Filling.{fitted_room}
 use Rattle.net_journey.specs.Terms.{Fresh}
-use Rattle.net_journey.proofs.Ring.{last_of, last-append, last-at}
+use Rattle.net_journey.proofs.Ring.{last_of, last_append, last_at}
 use Rattle.net_exchange.specs.ReadBack.{route_end, ReadsAs, RequestReadsBack, EveryRequestFits}
 
 -- the header of a route: its stations ahead, 00s, and nothing passed yet
@@ -40,8 +40,8 @@ pub record Shape (route : List ℕ) : Type 0 where
   pub size : sized form (length (spread route gap [])) ≡ true
   pub mark : mark_is form 0xEF ≡ true
 
-length-start : (route : List ℕ) (z : ℕ) → length (spread route z []) ≡ length route + suc z
-length-start route z = simp (append-nil, length-append, length-replicate) (omega arith)
+length_start : (route : List ℕ) (z : ℕ) → length (spread route z []) ≡ length route + suc z
+length_start route z = simp (append-nil, length-append, length-replicate) (omega arith)
 
 shape_by : (route : List ℕ) → Route route → (t : Bool) → leb (length route) 3 ≡ t → Shape route
 unfolding sized mark_is
@@ -53,12 +53,12 @@ shape_by route r true e =
       form = Standard;
       gap = gap;
       is = standard_head route few ∙ ap (λ (l : List ℕ). head Request new_control Standard (route ++ l)) (ap zeros more ∙ ap (λ (l : List ℕ). 0 ∷ l) (sym (append-nil (zeros gap))));
-      size = eq-eqb (length (spread route gap [])) 4 (length-start route gap ∙ omega arith);
+      size = eq-eqb (length (spread route gap [])) 4 (length_start route gap ∙ omega arith);
       mark = refl;
     }
 shape_by route r false e =
     let many : 3 < length route = leb-false (length route) 3 e in
-    let long = length-start route 0 in
+    let long = length_start route 0 in
     record {
       form = Extended 0xEF;
       gap = 0;
@@ -74,72 +74,72 @@ shape route r = shape_by route r (leb (length route) 3) refl
 pub route_full : {route : List ℕ} → Route route → Full route
 route_full {route} r = distinct_full route r.distinct
 
-pub route-once : {route : List ℕ} → Route route → Once route
-route-once {route} r = distinct_once route (rw (stations_full (route_full r)) r.distinct)
+pub route_once : {route : List ℕ} → Route route → Once route
+route_once {route} r = distinct_once route (rw (stations_full (route_full r)) r.distinct)
 
-first-station : {route : List ℕ} → Full route → 1 ≤ length route → (z : ℕ) → first (spread route z []) ≡ 0 → ⊥
+first_station : {route : List ℕ} → Full route → 1 ≤ length route → (z : ℕ) → first (spread route z []) ≡ 0 → ⊥
 unfolding first
-first-station nil some z e = omega arith
-first-station (cons f) some z e = omega arith
+first_station nil some z e = omega arith
+first_station (cons f) some z e = omega arith
 
 -- a header with stations ahead and nothing passed
 module _ (route : List ℕ) (r : Route route) (form : Form) (z : ℕ) where
   last_entry : get_or (spread route z []) (length (spread route z []) - 1) 0 ≡ 0
-  last_entry = last-at (spread route z []) ∙ ap last_of (last_zero route z) ∙ last-append (route ++ zeros z) 0 []
+  last_entry = last_at (spread route z []) ∙ ap last_of (last_zero route z) ∙ last_append (route ++ zeros z) 0 []
 
-  start-named : stations (spread route z []) ≡ route
-  start-named = stations-spread z (route_full r) nil ∙ append-nil route
+  start_named : stations (spread route z []) ≡ route
+  start_named = stations_spread z (route_full r) nil ∙ append-nil route
 
-  start-fresh : Fresh (head Request new_control form (spread route z []))
-  start-fresh = record { request = refl; first-named = first-station (route_full r) r.some z; last_zero = last_entry }
+  start_fresh : Fresh (head Request new_control form (spread route z []))
+  start_fresh = record { request = refl; first_named = first_station (route_full r) r.some z; last_zero = last_entry }
 
-  start-order : sized form (length (spread route z [])) ≡ true → mark_is form 0xEF ≡ true → InOrder Station (head Request new_control form (spread route z []))
+  start_order : sized form (length (spread route z [])) ≡ true → mark_is form 0xEF ≡ true → InOrder Station (head Request new_control form (spread route z []))
   unfolding allowed good_for mark_agrees mark_byte
-  start-order size mark = record {
+  start_order size mark = record {
     function = refl;
     size = size;
-    block = view_is_good route z [] (route_full r) nil (route-once r);
+    block = view_is_good route z [] (route_full r) nil (route_once r);
     mark = mark;
   }
 
-pub route-order : (route : List ℕ) → Route route → InOrder Station (request_head route)
-route-order route r =
+pub route_order : (route : List ℕ) → Route route → InOrder Station (request_head route)
+route_order route r =
     let s = shape route r in
-    subst (InOrder Station) (sym s.is) (start-order route r s.form s.gap s.size s.mark)
+    subst (InOrder Station) (sym s.is) (start_order route r s.form s.gap s.size s.mark)
 
 -- the telegram is read as what was asked for
 module _ (route : List ℕ) (rStart rCount wStart : ℕ) (values : List ℕ) (r : Route route) where
-  route-named : stations (request_head route).block ≡ route
-  route-named = let s = shape route r in ap (λ (h : Head). stations h.block) s.is ∙ start-named route r s.form s.gap
+  route_named : stations (request_head route).block ≡ route
+  route_named = let s = shape route r in ap (λ (h : Head). stations h.block) s.is ∙ start_named route r s.form s.gap
 
-  pub request-read : length values ≤ max_run → ReadsAs route rStart rCount wStart values (request_telegram route rStart rCount wStart values)
+  pub request_read : length values ≤ max_run → ReadsAs route rStart rCount wStart values (request_telegram route rStart rCount wStart values)
   unfolding request_telegram
-  request-read few =
+  request_read few =
       let h = request_head route in
       let body = request_body rStart rCount wStart values in
       let s = shape route r in
-      let back = reads-back Station h body (route-order route r) (omega (arith, request-most route rStart rCount wStart values r few)) in
+      let back = reads_back Station h body (route_order route r) (omega (arith, request_most route rStart rCount wStart values r few)) in
       record {
         order = back.0;
-        named = route-named;
-        fresh = subst Fresh (sym s.is) (start-fresh route r s.form s.gap);
-        many = ap length route-named;
-        last = ap route_end route-named;
-        read-start = ap read_start back.1 ∙ read-start-back rStart rCount wStart values;
-        read-count = ap read_count back.1 ∙ read-count-back rStart rCount wStart values;
-        write-start = ap write_start back.1 ∙ write-start-back rStart rCount wStart values;
-        write-count = ap write_count back.1 ∙ write-count-back rStart rCount wStart values;
-        values-back = ap values_of back.1 ∙ values-back rStart rCount wStart values;
+        named = route_named;
+        fresh = subst Fresh (sym s.is) (start_fresh route r s.form s.gap);
+        many = ap length route_named;
+        last = ap route_end route_named;
+        read_start_lem = ap read_start back.1 ∙ read_start_back rStart rCount wStart values;
+        read_count_lem = ap read_count back.1 ∙ read_count_back rStart rCount wStart values;
+        write_start_lem = ap write_start back.1 ∙ write_start_back rStart rCount wStart values;
+        write_count_lem = ap write_count back.1 ∙ write_count_back rStart rCount wStart values;
+        values_back = ap values_of back.1 ∙ values_back rStart rCount wStart values;
         whole_body = ap length back.1 ∙ length_request_body rStart rCount wStart values;
       }
 
-pub request-reads-back : RequestReadsBack
-request-reads-back route rStart rCount wStart values out n e =
+pub request_reads_back : RequestReadsBack
+request_reads_back route rStart rCount wStart values out n e =
     let w = wrote route rStart rCount wStart values out n e in
-    subst (ReadsAs route rStart rCount wStart values) (sym w.bytes) (request-read route rStart rCount wStart values w.good w.few_written)
+    subst (ReadsAs route rStart rCount wStart values) (sym w.bytes) (request_read route rStart rCount wStart values w.good w.few_written)
 
-pub every-request-fits : EveryRequestFits
-every-request-fits route rStart rCount wStart values out good few-read few_written room =
+pub every_request_fits : EveryRequestFits
+every_request_fits route rStart rCount wStart values out good few-read few_written room =
     let telegram = request_telegram route rStart rCount wStart values in
-    let fits : length telegram ≤ length out = omega (arith, request-most route rStart rCount wStart values (route-parts route good) few_written) in
-    (length telegram, ap (λ (f : Filling). f.given) (request-fitted route rStart rCount wStart values out good few-read few_written ∙ fitted-room telegram out fits))
+    let fits : length telegram ≤ length out = omega (arith, request_most route rStart rCount wStart values (route_parts route good) few_written) in
+    (length telegram, ap (λ (f : Filling). f.given) (request_fitted route rStart rCount wStart values out good few-read few_written ∙ fitted_room telegram out fits))

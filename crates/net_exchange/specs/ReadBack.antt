@@ -28,11 +28,11 @@ pub record ReadsAs (route : List ℕ) (rStart rCount wStart : ℕ) (values teleg
   pub many : m (request_head route) ≡ length route
   pub last : destination (request_head route) ≡ route_end route
   -- its body gives back both runs and the values
-  pub read-start : read_start (body_of (request_head route) telegram) ≡ rStart
-  pub read-count : read_count (body_of (request_head route) telegram) ≡ rCount
-  pub write-start : write_start (body_of (request_head route) telegram) ≡ wStart
-  pub write-count : write_count (body_of (request_head route) telegram) ≡ length values
-  pub values-back : values_of (body_of (request_head route) telegram) ≡ values
+  pub read_start_lem : read_start (body_of (request_head route) telegram) ≡ rStart
+  pub read_count_lem : read_count (body_of (request_head route) telegram) ≡ rCount
+  pub write_start_lem : write_start (body_of (request_head route) telegram) ≡ wStart
+  pub write_count_lem : write_count (body_of (request_head route) telegram) ≡ length values
+  pub values_back : values_of (body_of (request_head route) telegram) ≡ values
   pub whole_body : length (body_of (request_head route) telegram) ≡ 6 + 2 * length values
 
 -- so is every telegram that the centre writes: the first n places of the output, where the call gives n

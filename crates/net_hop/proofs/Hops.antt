@@ -38,9 +38,9 @@ use Rattle.net_hop.specs.declared.JourneyEnd.TheVariants.{AtNobody, Refused}
 use Rattle.net_hop.proofs.Tables.{fit_length, set_up_parts, set_up_fit, set_up_after, few_addresses, good_net_lem, addresses_of_net, place_in, here, table_at_place, new_net, new_fits}
 use Rattle.net_hop.proofs.Places.{place_of, no_place}
 
-address-byte : (a : ℕ) → is_address a ≡ true → a < bytes
+address_byte : (a : ℕ) → is_address a ≡ true → a < bytes
 unfolding is_address
-address-byte a e = omega (arith, leb-true a 0xF0 ((and-eq-true_iff (leb 1 a) (leb a 0xF0)).0 e).1)
+address_byte a e = omega (arith, leb-true a 0xF0 ((and-eq-true_iff (leb 1 a) (leb a 0xF0)).0 e).1)
 
 -- the telegram of h and body goes on as that of g and next, over other tables
 pub record Goes (addresses tables : List ℕ) (h : Head) (body after : List ℕ) (g : Head) (next : List ℕ) : Type 0 where
@@ -99,17 +99,17 @@ module _ (addresses tables : List ℕ) (set : set_up addresses tables ≡ true) 
       still_set : set_up addresses after ≡ true
       still_set = set_up_after addresses tables set after (new_fits a addresses tables fits there s.registers long)
 
-    kept-long : s.registers ≡ table_at a net → length s.registers ≡ table_length
-    kept-long e = ap length e ∙ good_table a net good there
+    kept_long : s.registers ≡ table_at a net → length s.registers ≡ table_length
+    kept_long e = ap length e ∙ good_table a net good there
 
     step_means : (x : Stepped) → s.stepped ≡ x → MeansBy addresses tables h body after (hopped_by x)
     unfolding hopped_by
     step_means (step.relays g) e =
         let w = walk_relayed net h body order good a mine there is e in
-        let same = sym w.same ∙ left (kept-long w.kept) in
+        let same = sym w.same ∙ left (kept_long w.kept) in
         record {
           goes = record {
-            set = still_set (kept-long w.kept);
+            set = still_set (kept_long w.kept);
             order = w.order;
             plays = λ k. w.plays k ∙ ap (λ (n : Net). onward (telegram_of h body) (length (telegram_of g body)) (playing k n (telegram_of g body))) same;
           };
@@ -124,14 +124,14 @@ module _ (addresses tables : List ℕ) (set : set_up addresses tables ≡ true) 
             plays = λ k. w.plays k ∙ ap (λ (n : Net). onward (telegram_of h body) (length (telegram_of g reply)) (playing k n (telegram_of g reply))) (left w.long);
           };
           request = w.request;
-          back = w.is-reply;
+          back = w.is_reply;
         }
     step_means (refuses j) e =
         let w = walk_refused net h body order good a mine there is e in
         record {
-          set = still_set (kept-long w.kept);
+          set = still_set (kept_long w.kept);
           given = handled.refuses j ∷ [];
-          plays = λ k. w.plays k ∙ ap (λ (n : Net). ended_by (telegram_of h body) (handled.refuses j ∷ []) n (refused_with j)) (sym w.same ∙ left (kept-long w.kept));
+          plays = λ k. w.plays k ∙ ap (λ (n : Net). ended_by (telegram_of h body) (handled.refuses j ∷ []) n (refused_with j)) (sym w.same ∙ left (kept_long w.kept));
         }
     step_means not_mine e = absurd (never_another net h body order good a mine there is e)
 
@@ -158,7 +158,7 @@ module _ (addresses tables : List ℕ) (set : set_up addresses tables ≡ true) 
         (nobody_means at_nobody (walk_nobody net h body order (suc a) mine (λ z. omega arith) e))
     there_means a mine true e =
         let some : has (suc a) addresses ≡ true = ap (has (suc a)) (sym (addresses_of_net addresses tables)) ∙ e in
-        let byte = address-byte (suc a) (good_address (suc a) net good e) in
+        let byte = address_byte (suc a) (good_address (suc a) net good e) in
         let number = place_of (suc a) addresses (few_addresses addresses tables fits) byte (set_up_parts addresses tables set).1 some in
         let reached = mul-le-mul_left {m = suc (place_in (suc a) addresses)} {n = length addresses} table_length (here (suc a) addresses tables fits e) in
         rw (known, number, le-ltb (length tables) (table_length * suc (place_in (suc a) addresses)) (omega (arith, reached, fit_length addresses tables fits)))
@@ -191,10 +191,10 @@ at_count (suc a) zero h body tables reply = omega arith
 at_count (suc a) (suc place) h body tables reply =
     pick_either (λ (x : Hop). x.count ≤ max_reply) (ltb (length tables) (table_length * suc place)) (omega arith) (step_count (suc a) place h body tables reply)
 
-pub answered-count : (places : List ℕ) (h : Head) (body tables reply : List ℕ) (r : HopAnswer) (slice after buffer : List ℕ) →
+pub answered_count : (places : List ℕ) (h : Head) (body tables reply : List ℕ) (r : HopAnswer) (slice after buffer : List ℕ) →
     hop_of r slice after buffer ≡ hopping places h body tables reply → {g : Header} {n : ℕ} → r ≡ Answered g n → n ≤ max_reply
 unfolding hopping
-answered-count places h body tables reply r slice after buffer call e =
+answered_count places h body tables reply r slice after buffer call e =
     subst (λ (x : HopAnswer). (hop_of x slice after buffer).count ≤ max_reply) e
     (subst (λ (x : Hop). x.count ≤ max_reply) (sym call) (at_count (first h.block) (get_or places (first h.block) 0) h body tables reply))
 
@@ -205,22 +205,22 @@ given_by (made.Answered h n) = Answered h n
 given_by made.NotMine = Ended AtNobody
 given_by (made.Refused r) = Ended (Refused r)
 
-given-hop : (x : StationStep) (slice t buffer tables : List ℕ) (place : ℕ) →
+given_hop : (x : StationStep) (slice t buffer tables : List ℕ) (place : ℕ) →
     hop_of (given_by x) slice (put_table place t tables) buffer ≡ hop_by (step_call_of x slice t buffer) place tables
 unfolding hop_by hopped_by
-given-hop (made.Relayed h) slice t buffer tables place = refl
-given-hop (made.Answered h n) slice t buffer tables place = refl
-given-hop made.NotMine slice t buffer tables place = refl
-given-hop (made.Refused r) slice t buffer tables place = refl
+given_hop (made.Relayed h) slice t buffer tables place = refl
+given_hop (made.Answered h n) slice t buffer tables place = refl
+given_hop made.NotMine slice t buffer tables place = refl
+given_hop (made.Refused r) slice t buffer tables place = refl
 
 -- the step of the station at a place: start is where its table begins, and n the length of a table
-pub stepped-at : (own place : ℕ) (h : Head) (body tables reply : List ℕ) (r : StationStep) (slice t buffer : List ℕ) {start n : ℕ} →
+pub stepped_at : (own place : ℕ) (h : Head) (body tables reply : List ℕ) (r : StationStep) (slice t buffer : List ℕ) {start n : ℕ} →
     start ≡ table_length * place → n ≡ table_length →
     step_call_of r slice t buffer ≡ lending (stepping own h body (take n (drop start tables)) call_output) (take n (drop start tables)) reply →
     {x : StationStep} → r ≡ x → hop_of (given_by x) slice (take start tables ++ (t ++ drop n (drop start tables))) buffer ≡ step_at own place h body tables reply
 unfolding step_at put_table table_of
-stepped-at own place h body tables reply r slice t buffer es en call {x} e =
-    rw (es, en, ← e) (given-hop r slice t buffer tables place ∙ ap (λ (c : StepCall). hop_by c place tables) (rw (es, en) at call))
+stepped_at own place h body tables reply r slice t buffer es en call {x} e =
+    rw (es, en, ← e) (given_hop r slice t buffer tables place ∙ ap (λ (c : StepCall). hop_by c place tables) (rw (es, en) at call))
 
 -- by the first entry and its number in the table of places
 module _ (places : List ℕ) (h : Head) (body tables reply : List ℕ) {a number : ℕ} (entry : a ≡ first h.block) (found : number ≡ get_or places a 0) where

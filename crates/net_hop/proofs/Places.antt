@@ -21,9 +21,9 @@ use Rattle.net_hop.proofs.Tables.{place_in}
 
 -- the loop: what is left gives the whole
 module _ (list places : List ℕ) (i : ℕ) {whole : List ℕ} (so : placing places i (drop i list) ≡ whole) where
-  pub place-step : i < length list → placing (set places (get_or list i 0) (i + 1)) (i + 1) (drop (i + 1) list) ≡ whole
+  pub place_step : i < length list → placing (set places (get_or list i 0) (i + 1)) (i + 1) (drop (i + 1) list) ≡ whole
   unfolding placing
-  place-step h = rw (add-one i) (sym (ap (placing places i) (drop-cons list i 0 h)) ∙ so)
+  place_step h = rw (add-one i) (sym (ap (placing places i) (drop-cons list i 0 h)) ∙ so)
 
   pub place_none : length list ≤ i → places ≡ whole
   unfolding placing

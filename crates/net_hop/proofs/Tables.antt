@@ -68,11 +68,11 @@ module _ (n : ℕ) where
   table_step = mul-suc table_length n ∙ add_comm (table_length * n) table_length
 
   module _ (tables : List ℕ) (e : length tables ≡ table_length * suc n) where
-    length-first : length (take table_length tables) ≡ table_length
-    length-first = length-take-le table_length tables (omega (arith, table_step))
+    length_first : length (take table_length tables) ≡ table_length
+    length_first = length-take-le table_length tables (omega (arith, table_step))
 
-    length-later : length (drop table_length tables) ≡ table_length * n
-    length-later = omega (arith, table_step, length-drop table_length tables)
+    length_later : length (drop table_length tables) ≡ table_length * n
+    length_later = omega (arith, table_step, length-drop table_length tables)
 
 -- no tables for no addresses
 none_left : (tables : List ℕ) → length tables ≡ table_length * 0 → tables ≡ []
@@ -83,7 +83,7 @@ pub tables_of_net : (addresses tables : List ℕ) → length tables ≡ table_le
 unfolding net_of tables_of
 tables_of_net [] tables e = sym (none_left tables e)
 tables_of_net (a ∷ rest) tables e =
-    ap (λ (l : List ℕ). take table_length tables ++ l) (tables_of_net rest (drop table_length tables) (length-later (length rest) tables e))
+    ap (λ (l : List ℕ). take table_length tables ++ l) (tables_of_net rest (drop table_length tables) (length_later (length rest) tables e))
     ∙ take-append-drop table_length tables
 
 pub same_tables : SameTables
@@ -99,8 +99,8 @@ right_net : (addresses tables : List ℕ) → length tables ≡ table_length * l
 unfolding net_of right_tables
 right_net [] tables e = refl
 right_net (a ∷ rest) tables e =
-    rw (eq-eqb (length (take table_length tables)) table_length (length-first (length rest) tables e))
-    (right_net rest (drop table_length tables) (length-later (length rest) tables e))
+    rw (eq-eqb (length (take table_length tables)) table_length (length_first (length rest) tables e))
+    (right_net rest (drop table_length tables) (length_later (length rest) tables e))
 
 pub good_net_lem : (addresses tables : List ℕ) → set_up addresses tables ≡ true → good_net (net_of addresses tables) ≡ true
 unfolding good_net
@@ -119,14 +119,14 @@ has_first : (a : ℕ) (rest : List ℕ) → has a rest ≡ ltb (place_in a rest)
 has_first a rest more true = sym (lt-ltb 0 (suc (length rest)) (omega arith))
 has_first a rest more false = more ∙ sym (leb-suc-suc (suc (place_in a rest)) (length rest))
 
-has-place : (a : ℕ) (addresses : List ℕ) → has a addresses ≡ ltb (place_in a addresses) (length addresses)
+has_place : (a : ℕ) (addresses : List ℕ) → has a addresses ≡ ltb (place_in a addresses) (length addresses)
 unfolding has
-has-place a [] = refl
-has-place a (x ∷ rest) = has_first a rest (has-place a rest) (eqb a x)
+has_place a [] = refl
+has_place a (x ∷ rest) = has_first a rest (has_place a rest) (eqb a x)
 
 pub there_place : (a : ℕ) (addresses tables : List ℕ) → is_there a (net_of addresses tables) ≡ ltb (place_in a addresses) (length addresses)
 unfolding is_there
-there_place a addresses tables = ap (has a) (addresses_of_net addresses tables) ∙ has-place a addresses
+there_place a addresses tables = ap (has a) (addresses_of_net addresses tables) ∙ has_place a addresses
 
 -- where the table of a place begins
 abbrev start_of : ℕ → ℕ
@@ -136,8 +136,8 @@ start_zero : start_of 0 ≡ 0
 unfolding table_length
 start_zero = refl
 
-drop-step : (n : ℕ) (tables : List ℕ) → drop (start_of (suc n)) tables ≡ drop (start_of n) (drop table_length tables)
-drop-step n tables = ap (λ (k : ℕ). drop k tables) (table_step n) ∙ sym (drop-drop (start_of n) table_length tables)
+drop_step : (n : ℕ) (tables : List ℕ) → drop (start_of (suc n)) tables ≡ drop (start_of n) (drop table_length tables)
+drop_step n tables = ap (λ (k : ℕ). drop k tables) (table_step n) ∙ sym (drop-drop (start_of n) table_length tables)
 
 put_zero : (t tables : List ℕ) → put_table 0 t tables ≡ t ++ drop table_length tables
 unfolding put_table
@@ -147,7 +147,7 @@ put_step : (n : ℕ) (t tables : List ℕ) → put_table (suc n) t tables ≡ ta
 unfolding put_table
 put_step n t tables =
     ap₂ (λ (u v : List ℕ). u ++ (t ++ drop table_length v))
-    (ap (λ (k : ℕ). take k tables) (table_step n) ∙ take-add table_length (start_of n) tables) (drop-step n tables)
+    (ap (λ (k : ℕ). take k tables) (table_step n) ∙ take-add table_length (start_of n) tables) (drop_step n tables)
     ∙ append_assoc (take table_length tables) (take (start_of n) (drop table_length tables))
     (t ++ drop table_length (drop (start_of n) (drop table_length tables)))
 
@@ -159,9 +159,9 @@ module _ (n k : ℕ) (tables : List ℕ) (h : n < k) (e : length tables ≡ tabl
       let ends = mul-le-mul_left {m = suc n} {n = k} table_length h in
       length-take-le table_length (drop (start_of n) tables) (omega (arith, table_step n, ends, length-drop (start_of n) tables))
 
-  length-put : (t : List ℕ) → length t ≡ table_length → length (put_table n t tables) ≡ length tables
+  length_put : (t : List ℕ) → length t ≡ table_length → length (put_table n t tables) ≡ length tables
   unfolding table_length put_table
-  length-put t l = simp (length-append, length-take, length-drop) (omega arith)
+  length_put t l = simp (length-append, length-take, length-drop) (omega arith)
 
 -- the table at an address is the one at its place: the first, or one behind it
 module _ (a x : ℕ) (rest tables : List ℕ) where
@@ -178,7 +178,7 @@ module _ (a x : ℕ) (rest tables : List ℕ) where
       (c : Bool) → place c < suc (length rest) → pick c (take table_length tables) (table_at a (net_of rest later)) ≡ table_of (place c) tables
   unfolding table_of
   table_first more true h = ap (λ (k : ℕ). take table_length (drop k tables)) (sym start_zero)
-  table_first more false h = more (omega arith) ∙ ap (take table_length) (sym (drop-step (place_in a rest) tables))
+  table_first more false h = more (omega arith) ∙ ap (take table_length) (sym (drop_step (place_in a rest) tables))
 
   -- another table at an address is another one at its place
   with_first : (t : List ℕ) → length tables ≡ table_length * suc (length rest) → length t ≡ table_length →
@@ -191,7 +191,7 @@ module _ (a x : ℕ) (rest tables : List ℕ) where
   with_first t e l more false h =
       let first = take table_length tables in
       let behind = put_table (place_in a rest) t later in
-      let long = length-first (length rest) tables e in
+      let long = length_first (length rest) tables e in
       rw (put_step (place_in a rest) t tables, take_at first behind table_length long, drop_at first behind table_length long)
       (ap (λ (n : Net). station first ∷ n) (more (omega arith)))
 
@@ -201,14 +201,14 @@ unfolding net_of table_at
 table_at_place a [] tables h = absurd (omega arith)
 table_at_place a (x ∷ rest) tables h = table_first a x rest tables (table_at_place a rest (drop table_length tables)) (eqb a x) h
 
-with-net : (a : ℕ) (addresses tables t : List ℕ) → place_in a addresses < length addresses →
+with_net : (a : ℕ) (addresses tables t : List ℕ) → place_in a addresses < length addresses →
     length tables ≡ table_length * length addresses → length t ≡ table_length →
     with_table a t (net_of addresses tables) ≡ net_of addresses (put_table (place_in a addresses) t tables)
 unfolding net_of with_table
-with-net a [] tables t h e l = absurd (omega arith)
-with-net a (x ∷ rest) tables t h e l =
+with_net a [] tables t h e l = absurd (omega arith)
+with_net a (x ∷ rest) tables t h e l =
     with_first a x rest tables t e l
-    (λ g. with-net a rest (drop table_length tables) t g (length-later (length rest) tables e) l) (eqb a x) h
+    (λ g. with_net a rest (drop table_length tables) t g (length_later (length rest) tables e) l) (eqb a x) h
 
 -- an address that is there, in tables that fit
 module _ (a : ℕ) (addresses tables : List ℕ) (fits : tables_fit addresses tables ≡ true) (there : is_there a (net_of addresses tables) ≡ true) where
@@ -221,9 +221,9 @@ module _ (a : ℕ) (addresses tables : List ℕ) (fits : tables_fit addresses ta
     new = put_table (place_in a addresses) t tables
 
     pub new_net : with_table a t (net_of addresses tables) ≡ net_of addresses new
-    new_net = with-net a addresses tables t here (fit_length addresses tables fits) long
+    new_net = with_net a addresses tables t here (fit_length addresses tables fits) long
 
     pub new_fits : tables_fit addresses new ≡ true
     new_fits =
         fit_same addresses tables new
-        (length-put (place_in a addresses) (length addresses) tables here (fit_length addresses tables fits) t long) fits
+        (length_put (place_in a addresses) (length addresses) tables here (fit_length addresses tables fits) t long) fits

@@ -13,7 +13,7 @@ use Rattle.mop_reader.specs.declared.Reader.TheVariants.{Station}
 use Rattle.net_hop.specs.Tables.{set_up}
 use Rattle.net_hop.specs.Hop.{places_of}
 use Rattle.net_hop.specs.Private.Ways.{OnItsWay}
-use Rattle.net_hop.proofs.Lent.{same_head, whole-telegram}
+use Rattle.net_hop.proofs.Lent.{same_head, whole_telegram}
 
 -- a telegram that was read, and the parts of it that are lent: its block from start on, and its body from n on
 module _ (read : Header) (tg addresses tables : List ℕ) (order : reading Station tg ≡ sound (head_of read (drop (block_start read.form) tg)))
@@ -28,6 +28,6 @@ module _ (read : Header) (tg addresses tables : List ℕ) (order : reading Stati
   sets_out = record {
     set = set;
     known = refl;
-    order = ap (reading Station) (whole-telegram read tg order begins long) ∙ order ∙ ap sound (sym (same_head read tg begins));
+    order = ap (reading Station) (whole_telegram read tg order begins long) ∙ order ∙ ap sound (sym (same_head read tg begins));
     most = omega arith;
   }

@@ -11,7 +11,7 @@ use lib.ListN.{length, drop, replicate, length-append, length-replicate}
 use lib.Seq.{take-append-le}
 use Rattle.base.specs.Choice.{pick}
 use Rattle.base.specs.Places.{placed}
-use Rattle.refusal.proofs.Numbers.{numbers-differ}
+use Rattle.refusal.proofs.Numbers.{numbers_differ}
 use Rattle.mop_block.specs.Block.{has, first}
 use Rattle.mop_header.specs.Header.{Head}
 use Rattle.mop_reader.specs.Reading.{Reading, sound, faulty, max_telegram, reading}
@@ -20,7 +20,7 @@ use Rattle.net_journey.specs.Net.{table_at}
 use Rattle.net_journey.specs.Journey.{Course}
 use Rattle.net_journey.specs.Terms.{before_zeros, last_telegram}
 use Rattle.net_journey.proofs.Ring.{none_named}
-use Rattle.net_journey.proofs.Start.{reply-request}
+use Rattle.net_journey.proofs.Start.{reply_request}
 use Rattle.net_hop.specs.Tables.{net_of, tables_fit, set_up}
 use Rattle.net_hop.specs.Hop.{ending_of}
 use Rattle.net_hop.specs.declared.JourneyEnd.{JourneyEnd}
@@ -29,25 +29,25 @@ use Rattle.net_hop.proofs.Tables.{addresses_of_net, good_net_lem}
 use Rattle.net_dry_run.specs.DryRun.{Outcome, played, outright, outcome_of, DryRun, leaves, run_output, padded, of_course, run_of, dry_run}
 use Rattle.net_dry_run.specs.declared.DryRunAnswer.{DryRunAnswer}
 use Rattle.net_dry_run.specs.declared.DryRunAnswer.TheVariants.{Played, Refused}
-use Rattle.net_dry_run.proofs.DryRuns.{not_set_up, too_long, output-short, run_by}
+use Rattle.net_dry_run.proofs.DryRuns.{not_set_up, too_long, output_short, run_by}
 use Rattle.net_dry_run.proofs.Journeys.{runs_the_journey}
 use Rattle.net_isolation.specs.Journeys.{SameCourse}
 use Rattle.net_isolation.specs.Isolated.{IsPlayed, SameFirst, SameFilled, SameRun, SameLengths, Isolated, RefusedIsolated, NobodyIsolated, MissingIsolated, RepliesIsolated, CallsSame, CallsIsolated}
 use Rattle.net_isolation.proofs.Journeys.{Asks, same_header, of_header, both_journeys}
 
 -- a telegram and 0 behind it have the places that are filled
-padded-long : (tg : List ℕ) → run_output ≤ length (padded tg)
+padded_long : (tg : List ℕ) → run_output ≤ length (padded tg)
 unfolding padded
-padded-long tg = omega (arith, length-append tg (replicate (run_output - length tg) 0), length-replicate {A = ℕ} (run_output - length tg) 0)
+padded_long tg = omega (arith, length-append tg (replicate (run_output - length tg) 0), length-replicate {A = ℕ} (run_output - length tg) 0)
 
 -- whatever the output held
-same-own : (n : ℕ) (new old other : List ℕ) → n ≤ length new → SameFirst n (new ++ old) (new ++ other)
-same-own n new old other h = record { same = take-append-le n new old h ∙ sym (take-append-le n new other h) }
+same_own : (n : ℕ) (new old other : List ℕ) → n ≤ length new → SameFirst n (new ++ old) (new ++ other)
+same_own n new old other h = record { same = take-append-le n new old h ∙ sym (take-append-le n new other h) }
 
-same-filled : (last out out' : List ℕ) → SameFilled (placed (padded last) out) (placed (padded last) out')
+same_filled : (last out out' : List ℕ) → SameFilled (placed (padded last) out) (placed (padded last) out')
 unfolding placed
-same-filled last out out' =
-    same-own _ (padded last) (drop (length (padded last)) out) (drop (length (padded last)) out') (omega (arith, padded-long last))
+same_filled last out out' =
+    same_own _ (padded last) (drop (length (padded last)) out) (drop (length (padded last)) out') (omega (arith, padded_long last))
 
 -- a station that is not there has no table
 module _ (a : ℕ) where
@@ -72,19 +72,19 @@ module _ (tg addresses tables tables' out out' : List ℕ) (lengths : SameLength
   two = dry_run tg addresses tables' out'
 
   -- both are refused outright
-  same-outright : (k : ℕ) → one ≡ leaves (outright k) tables out → two ≡ leaves (outright k) tables' out' → SameRun one two
-  same-outright k e f =
+  same_outright : (k : ℕ) → one ≡ leaves (outright k) tables out → two ≡ leaves (outright k) tables' out' → SameRun one two
+  same_outright k e f =
       let is = ap (λ (r : DryRun). r.outcome) e in
       record { outcome = is ∙ sym (ap (λ (r : DryRun). r.outcome) f); filled = λ p. absurd (not_played is p) }
 
   -- both are played, with the same course
-  same-course : (c d : Course) → SameCourse c d → SameRun (of_course c out) (of_course d out')
+  same_course : (c d : Course) → SameCourse c d → SameRun (of_course c out) (of_course d out')
   unfolding of_course
-  same-course c d same = record {
+  same_course c d same = record {
     outcome = λ i. played (length (same.transmissions i)) (same.ending i) (length (last_telegram (same.transmissions i)));
     filled = λ p.
         subst (λ (l : List (List ℕ)). SameFilled (placed (padded (last_telegram c.transmissions)) out) (placed (padded (last_telegram l)) out')) same.transmissions
-        (same-filled (last_telegram c.transmissions) out out');
+        (same_filled (last_telegram c.transmissions) out out');
   }
 
   set_same : set_up addresses tables' ≡ set_up addresses tables
@@ -103,58 +103,58 @@ module _ (tg addresses tables tables' out out' : List ℕ) (lengths : SameLength
         by_reading : length tg ≤ max_telegram → (r : Reading) → reading Station tg ≡ r → SameRun one two
         unfolding of_course run_of
         by_reading short (faulty k) e =
-            same-outright k (run_by tg addresses tables out set short room (sym e)) (run_by tg addresses tables' out' set' short room' (sym e))
+            same_outright k (run_by tg addresses tables out set short room (sym e)) (run_by tg addresses tables' out' set' short room' (sym e))
         by_reading short (sound h) e =
             let r = runs_the_journey tg addresses tables out h set room e in
             let s = runs_the_journey tg addresses tables' out' h set' room' e in
             let is-played : IsPlayed one.outcome = subst (λ (x : DryRun). IsPlayed x.outcome) (sym r.gives) tt in
             subst₂ SameRun (sym r.gives) (sym s.gives)
-            (same-course r.journey.course s.journey.course
+            (same_course r.journey.course s.journey.course
             (both_journeys tg (net_of addresses tables) (net_of addresses tables') (good_net_lem addresses tables set) (good_net_lem addresses tables' set')
             (addresses_of_net addresses tables ∙ sym (addresses_of_net addresses tables')) (asks is-played) r.journey.journey s.journey.journey).shown)
 
       by_room : length tg ≤ max_telegram → (less : Bool) → ltb (length out) run_output ≡ less → SameRun one two
       by_room short true e =
           let few = ltb-true (length out) run_output e in
-          same-outright 11 (output-short tg addresses tables out set short few) (output-short tg addresses tables' out' set' short (omega (arith, lengths.of_outputs)))
+          same_outright 11 (output_short tg addresses tables out set short few) (output_short tg addresses tables' out' set' short (omega (arith, lengths.of_outputs)))
       by_room short false e = by_reading (ltb-false (length out) run_output e) short (reading Station tg) refl
 
       by_length : (long : Bool) → ltb max_telegram (length tg) ≡ long → SameRun one two
       by_length true e =
           let more = ltb-true max_telegram (length tg) e in
-          same-outright 12 (too_long tg addresses tables out set more) (too_long tg addresses tables' out' set' more)
+          same_outright 12 (too_long tg addresses tables out set more) (too_long tg addresses tables' out' set' more)
       by_length false e = by_room (ltb-false max_telegram (length tg) e) (ltb (length out) run_output) refl
 
     by_net : (set : Bool) → set_up addresses tables ≡ set → SameRun one two
     by_net true e = by_length e (ltb max_telegram (length tg)) refl
-    by_net false e = same-outright 1 (not_set_up tg addresses tables out e) (not_set_up tg addresses tables' out' (set_same ∙ e))
+    by_net false e = same_outright 1 (not_set_up tg addresses tables out e) (not_set_up tg addresses tables' out' (set_same ∙ e))
 
-    same-run : SameRun one two
-    same-run = by_net (set_up addresses tables) refl
+    same_run : SameRun one two
+    same_run = by_net (set_up addresses tables) refl
 
 pub isolated : Isolated
 isolated tg addresses tables tables' out out' o =
-    same-run tg addresses tables tables' out out' o.lengths (λ p h e request some. o.destination p h e)
+    same_run tg addresses tables tables' out out' o.lengths (λ p h e request some. o.destination p h e)
 
 pub refused_isolated : RefusedIsolated
 refused_isolated tg addresses tables tables' out out' lengths k e =
-    same-run tg addresses tables tables' out out' lengths (λ p. absurd (not_played e p))
+    same_run tg addresses tables tables' out out' lengths (λ p. absurd (not_played e p))
 
 pub nobody_isolated : NobodyIsolated
 nobody_isolated tg addresses h order none tables tables' out out' lengths =
-    same-run tg addresses tables tables' out out' lengths
+    same_run tg addresses tables tables' out out' lengths
     (λ p g e request some. absurd (some (subst (λ (x : Head). first x.block ≡ 0) (same_header order e) (none_named h.block none))))
 
 pub missing_isolated : MissingIsolated
 missing_isolated tg addresses h order missing tables tables' out out' lengths =
     let same = no_table (before_zeros h.block) addresses tables missing ∙ sym (no_table (before_zeros h.block) addresses tables' missing) in
-    same-run tg addresses tables tables' out out' lengths
+    same_run tg addresses tables tables' out out' lengths
     (λ p. of_header (λ (g : Head). Asks g (net_of addresses tables) (net_of addresses tables')) order (λ request some. same))
 
 pub replies_isolated : RepliesIsolated
 replies_isolated tg addresses h order reply tables tables' out out' lengths =
-    same-run tg addresses tables tables' out out' lengths
-    (λ p g e request. absurd (reply-request (sym reply ∙ ap (λ (x : Head). x.function) (same_header order e) ∙ request)))
+    same_run tg addresses tables tables' out out' lengths
+    (λ p g e request. absurd (reply_request (sym reply ∙ ap (λ (x : Head). x.function) (same_header order e) ∙ request)))
 
 -- an answer by its outcome
 same_end : (e f : JourneyEnd) → ending_of e ≡ ending_of f → e ≡ f
@@ -166,7 +166,7 @@ same_end end.AtNobody end.AtNobody x = refl
 same_end end.AtNobody (end.Refused r) x = let z : ◌≡◌ {A = ℕ} 0 1 = cc in absurd (omega arith)
 same_end (end.Refused r) end.AtZero x = let z : ◌≡◌ {A = ℕ} 0 1 = cc in absurd (omega arith)
 same_end (end.Refused r) end.AtNobody x = let z : ◌≡◌ {A = ℕ} 0 1 = cc in absurd (omega arith)
-same_end (end.Refused r) (end.Refused s) x = ap end.Refused (numbers-differ r s cc)
+same_end (end.Refused r) (end.Refused s) x = ap end.Refused (numbers_differ r s cc)
 
 same_answer : (r s : DryRunAnswer) → outcome_of r ≡ outcome_of s → r ≡ s
 same_answer (Played c e n) (Played d f m) x =
@@ -176,7 +176,7 @@ same_answer (Played c e n) (Played d f m) x =
     λ i. Played (counts i) (same_end e f ends i) (lasts i)
 same_answer (Played c e n) (Refused s) x = let z : ◌≡◌ {A = ℕ} 0 1 = cc in absurd (omega arith)
 same_answer (Refused r) (Played d f m) x = let z : ◌≡◌ {A = ℕ} 0 1 = cc in absurd (omega arith)
-same_answer (Refused r) (Refused s) x = ap Refused (numbers-differ r s cc)
+same_answer (Refused r) (Refused s) x = ap Refused (numbers_differ r s cc)
 
 pub calls_same : CallsSame
 calls_same tg addresses tables tables' out out' run r s after left after' left' p q =

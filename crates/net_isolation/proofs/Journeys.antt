@@ -15,25 +15,25 @@ use Rattle.mop_reader.specs.Reading.{Reading, sound, faulty, reading}
 use Rattle.mop_header.specs.declared.Function.{Function}
 use Rattle.mop_header.specs.declared.Function.TheVariants.{Request, Reply}
 use Rattle.mop_reader.specs.declared.Reader.TheVariants.{Station}
-use Rattle.mop_reader.proofs.ReadBack.{is-written}
+use Rattle.mop_reader.proofs.ReadBack.{is_written}
 use Rattle.mop_step.specs.Step.{Stepped, relays, answers, not_mine, refuses, is_station, relayed, stepping}
-use Rattle.mop_step.proofs.Stations.{is-station}
+use Rattle.mop_step.proofs.Stations.{is_station_lem}
 use Rattle.mop_station.specs.Station.{Handled, sent}
 use Rattle.mop_station.specs.Station as station
 use Rattle.net_journey.specs.Net.{Net, addresses_of, good_net, is_there, table_at, with_table}
 use Rattle.net_journey.specs.Journey.{Ending, at_zero, at_nobody, refused_with, Course, onward, call_output, Journey}
 use Rattle.net_journey.specs.Terms.{before_zeros}
 use Rattle.net_journey.specs.Bounded.{playing}
-use Rattle.net_journey.proofs.Net.{table_other, table_same, addresses-with, good_table, good_address}
+use Rattle.net_journey.proofs.Net.{table_other, table_same, addresses_with, good_table, good_address}
 use Rattle.net_journey.proofs.Telegrams.{sound_faultless}
-use Rattle.net_journey.proofs.Start.{reply-request}
-use Rattle.net_journey.proofs.Whole.{every-journey}
-use Rattle.net_journey.proofs.Steps.{ends-faulty}
+use Rattle.net_journey.proofs.Start.{reply_request}
+use Rattle.net_journey.proofs.Whole.{every_journey}
+use Rattle.net_journey.proofs.Steps.{ends_faulty}
 use Rattle.net_journey.proofs.Bounded.{plays}
 use Rattle.net_journey.proofs.Walks.{walk_zero, walk_nobody, walk_relayed, walk_answered, walk_refused, never_another}
 use Rattle.net_isolation.specs.Journeys.{SameCourse, JourneysIsolated, TablesIsolated, StaysGood}
-use Rattle.net_isolation.proofs.Ring.{destination-first, destination-stays}
-use Rattle.net_isolation.proofs.Registers.{step_same, step-relays, step-answers}
+use Rattle.net_isolation.proofs.Ring.{destination_first, destination_stays}
+use Rattle.net_isolation.proofs.Registers.{step_same, step_relays, step_answers}
 
 -- what is asked of two tables of the destination: that they are the same, for a request with a station first
 abbrev pub Asks : Head → Net → Net → Type 0
@@ -50,8 +50,8 @@ record Agree (net net' : Net) (h : Head) : Type 0 where
 abbrev pub Kept : Net → Net → Net → Net → Type 0
 Kept net net' after after' = (b : ℕ) → table_at b net ≡ table_at b net' → table_at b after ≡ table_at b after'
 
-kept-with : (a : ℕ) {t t' : List ℕ} (net net' : Net) → t ≡ t' → is_there a net ≡ true → is_there a net' ≡ true → Kept net net' (with_table a t net) (with_table a t' net')
-kept-with a {t} {t'} net net' e there there' b same = go (eqb b a) refl
+kept_with : (a : ℕ) {t t' : List ℕ} (net net' : Net) → t ≡ t' → is_there a net ≡ true → is_there a net' ≡ true → Kept net net' (with_table a t net) (with_table a t' net')
+kept_with a {t} {t'} net net' e there there' b same = go (eqb b a) refl
   where
     go : (here : Bool) → eqb b a ≡ here → table_at b (with_table a t net) ≡ table_at b (with_table a t' net')
     go true is = rw (eqb-true b a is) (table_same a t net there ∙ e ∙ sym (table_same a t' net' there'))
@@ -86,10 +86,10 @@ both_onward tg k between s = record {
 }
 
 -- the block of a request that is relayed
-relayed-block : (f : Function) (h : Head) → f ≡ Request → (relayed f h).block ≡ roll_left h.block
+relayed_block : (f : Function) (h : Head) → f ≡ Request → (relayed f h).block ≡ roll_left h.block
 unfolding relayed rolled_left
-relayed-block Request h e = refl
-relayed-block Reply h e = absurd (reply-request e)
+relayed_block Request h e = refl
+relayed_block Reply h e = absurd (reply_request e)
 
 -- one hop, in both nets; the k hops behind it are the same
 module _ (k : ℕ)
@@ -112,55 +112,55 @@ module _ (k : ℕ)
     there' = there_same a ∙ there
 
     set_in : (n : Net) → good_net n ≡ true → is_there a n ≡ true → is_station a (table_at a n) ≡ true
-    set_in n good is = is-station a (table_at a n) (good_address a n good is) (good_table a n good is)
+    set_in n good is = is_station_lem a (table_at a n) (good_address a n good is) (good_table a n good is)
 
     -- the destination has the same table in both
     table_here : h.function ≡ Request → next h.block ≡ 0 → table_at a net ≡ table_at a net'
     table_here request last =
-        subst (λ (d : ℕ). table_at d net ≡ table_at d net') (destination-first h.block good_block_lem some last ∙ mine) (agree.table request some)
+        subst (λ (d : ℕ). table_at d net ≡ table_at d net') (destination_first h.block good_block_lem some last ∙ mine) (agree.table request some)
 
-    steps-same : (stepping a h body (table_at a net) call_output).stepped ≡ (stepping a h body (table_at a net') call_output).stepped
-    steps-same =
+    steps_same : (stepping a h body (table_at a net) call_output).stepped ≡ (stepping a h body (table_at a net') call_output).stepped
+    steps_same =
         step_same h body call_output a (table_at a net) (table_at a net') (set_in net agree.good there) (set_in net' agree.good' there') mine
         table_here
 
     relay_agrees : {g : Head} → (stepping a h body (table_at a net) call_output).stepped ≡ relays g → g.function ≡ h.function → Agree net net' g
     relay_agrees {g} e function =
-        let made = step-relays h body call_output (table_at a net) a (set_in net agree.good there) mine e in
+        let made = step_relays h body call_output (table_at a net) a (set_in net agree.good there) mine e in
         record {
           good = agree.good;
           good' = agree.good';
           stations = agree.stations;
           table = λ request named.
               let asked = sym function ∙ request in
-              let same = ap (λ (x : Head). before_zeros x.block) made.0 ∙ ap before_zeros (relayed-block h.function h asked)
-              ∙ destination-stays h.block good_block_lem some (made.1 asked) in
+              let same = ap (λ (x : Head). before_zeros x.block) made.0 ∙ ap before_zeros (relayed_block h.function h asked)
+              ∙ destination_stays h.block good_block_lem some (made.1 asked) in
               subst (λ (d : ℕ). table_at d net ≡ table_at d net') (sym same) (agree.table asked some);
         }
 
     by_step : (x : Stepped) → (stepping a h body (table_at a net) call_output).stepped ≡ x → Same
     by_step (relays g) e =
         let r = walk_relayed net h body order agree.good a mine there refl e in
-        let s = walk_relayed net' h body order agree.good' a mine there' refl (sym steps-same ∙ e) in
+        let s = walk_relayed net' h body order agree.good' a mine there' refl (sym steps_same ∙ e) in
         both_as (r.plays k) (s.plays k)
         (both_onward (telegram_of h body) (length (telegram_of g body)) (λ b same. same) (later net net' g body (relay_agrees e r.function) r.order))
     by_step (answers g reply) e =
         let r = walk_answered net h body order agree.good a mine there refl e in
-        let s = walk_answered net' h body order agree.good' a mine there' refl (sym steps-same ∙ e) in
-        let who = step-answers h body call_output (table_at a net) a (set_in net agree.good there) mine e in
+        let s = walk_answered net' h body order agree.good' a mine there' refl (sym steps_same ∙ e) in
+        let who = step_answers h body call_output (table_at a net) a (set_in net agree.good there) mine e in
         let written = ap (λ (t : List ℕ). (stepping a h body t call_output).registers) (table_here who.0 who.1) in
         both_as (r.plays k) (s.plays k)
-        (both_onward (telegram_of h body) (length (telegram_of g reply)) (kept-with a net net' written there there') (later _ _ g reply
+        (both_onward (telegram_of h body) (length (telegram_of g reply)) (kept_with a net net' written there there') (later _ _ g reply
         (record {
           good = r.fit;
           good' = s.fit;
-          stations = addresses-with a _ net ∙ agree.stations ∙ sym (addresses-with a _ net');
-          table = λ request. absurd (reply-request (sym r.is-reply ∙ request));
+          stations = addresses_with a _ net ∙ agree.stations ∙ sym (addresses_with a _ net');
+          table = λ request. absurd (reply_request (sym r.is_reply ∙ request));
         })
         r.order))
     by_step (refuses j) e =
         let r = walk_refused net h body order agree.good a mine there refl e in
-        let s = walk_refused net' h body order agree.good' a mine there' refl (sym steps-same ∙ e) in
+        let s = walk_refused net' h body order agree.good' a mine there' refl (sym steps_same ∙ e) in
         both_as (r.plays k) (s.plays k) (both_end (telegram_of h body) net net' (station.refuses j ∷ []) (refused_with j) agree.good)
     by_step not_mine e = absurd (never_another net h body order agree.good a mine there refl e)
 
@@ -186,10 +186,10 @@ module _ (tg : List ℕ) (net net' : Net) (good : good_net net ≡ true) (good' 
     (asks : (h : Head) → reading Station tg ≡ sound h → Asks h net net') where
   read_same : (k : ℕ) (r : Reading) → reading Station tg ≡ r → Both net net' (playing (suc k) net tg) (playing (suc k) net' tg)
   read_same k (faulty j) e =
-      both_as (plays (suc k) (ends-faulty net tg j e) (omega arith)) (plays (suc k) (ends-faulty net' tg j e) (omega arith))
+      both_as (plays (suc k) (ends_faulty net tg j e) (omega arith)) (plays (suc k) (ends_faulty net' tg j e) (omega arith))
       (both_end tg net net' [] (refused_with j) good)
   read_same k (sound h) e =
-      let whole = (is-written Station tg h e).whole in
+      let whole = (is_written Station tg h e).whole in
       subst (λ (x : List ℕ). Both net net' (playing (suc k) net x) (playing (suc k) net' x)) whole
       (same_from (suc k) net net' h (body_of h tg) (record { good = good; good' = good'; stations = stations; table = asks h e })
       (ap (reading Station) whole ∙ e))
@@ -217,19 +217,19 @@ module _ (tg : List ℕ) (net net' : Net) (c d : Course) (good : good_net net �
   table_kept : (n : Net) → good_net n ≡ true → {x : Course} → Journey n tg x → (h : Head) → reading Station tg ≡ sound h → (a ≡ before_zeros h.block → ⊥) →
       table_at a x.after ≡ table_at a n
   table_kept n fit {x} k h order other =
-      let the = every-journey n tg fit in
-      ap (λ (y : Course). table_at a y.after) (the.only x k) ∙ the.demand3.others-kept h order a other
+      let the = every_journey n tg fit in
+      ap (λ (y : Course). table_at a y.after) (the.only x k) ∙ the.demand3.others_kept h order a other
 
-  at-station : (h : Head) → reading Station tg ≡ sound h → (here : Bool) → eqb a (before_zeros h.block) ≡ here → table_at a c.after ≡ table_at a d.after
-  at-station h order true is =
+  at_station : (h : Head) → reading Station tg ≡ sound h → (here : Bool) → eqb a (before_zeros h.block) ≡ here → table_at a c.after ≡ table_at a d.after
+  at_station h order true is =
       let here = subst (λ (b : ℕ). table_at b net ≡ table_at b net') (eqb-true a (before_zeros h.block) is) same in
       (both_journeys tg net net' good good' stations (of_header (λ (g : Head). Asks g net net') order (λ request some. here)) i j).kept a same
-  at-station h order false is =
+  at_station h order false is =
       let other = eqb-false a (before_zeros h.block) is in
       table_kept net good i h order other ∙ same ∙ sym (table_kept net' good' j h order other)
 
   after_same : (r : Reading) → reading Station tg ≡ r → table_at a c.after ≡ table_at a d.after
-  after_same (sound h) order = at-station h order (eqb a (before_zeros h.block)) refl
+  after_same (sound h) order = at_station h order (eqb a (before_zeros h.block)) refl
   after_same (faulty k) fault =
       (both_journeys tg net net' good good' stations (λ h e. let x = sym fault ∙ e in let z : ◌≡◌ {A = ℕ} 0 1 = cc in absurd (omega arith)) i j).kept a same
 

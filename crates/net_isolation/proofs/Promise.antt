@@ -15,5 +15,5 @@ module _ (κs : Lfts 4) (a : Dens κs ps) where
       KeepsPromise a.0.now a.1.0.now a.1.1.0.now a.1.1.1.0.now x s.1.1.0.now s.1.1.1.0.now
   dry_run_promises x s p = p
 
-  pub dry-run-asks-nothing : Pre κs a
-  dry-run-asks-nothing = tt
+  pub dry_run_asks_nothing : Pre κs a
+  dry_run_asks_nothing = tt

@@ -17,7 +17,7 @@ use Rattle.mop_step.specs.Body.{Acceptance, accepts, rejects, judged_body, after
 use Rattle.mop_step.specs.Step.{Stepped, relays, answers, refuses, Step, step, is_station, if_room, relayed, relaying, replied, answering, acting, stepping}
 use Rattle.mop_step.proofs.Cases.{act_either}
 use Rattle.mop_step.proofs.Steps.{for_this}
-use Rattle.net_journey.proofs.Start.{reply-request}
+use Rattle.net_journey.proofs.Start.{reply_request}
 
 module _ (h : Head) (body : List ℕ) (room : ℕ) where
   -- a relay, whatever its table
@@ -73,17 +73,17 @@ module _ (h : Head) (body : List ℕ) (room : ℕ) where
     unfolding acting
     act_relays Request zero e = absurd (answer_no_relay (judged_body body) e)
     act_relays Request (suc n) e = (relaying_header e, λ r z. suc-ne-zero n z)
-    act_relays Reply n e = (relaying_header e, λ r. absurd (reply-request r))
+    act_relays Reply n e = (relaying_header e, λ r. absurd (reply_request r))
 
-    pub step-relays : (own : ℕ) → is_station own t ≡ true → first h.block ≡ own → (stepping own h body t room).stepped ≡ relays g →
+    pub step_relays : (own : ℕ) → is_station own t ≡ true → first h.block ≡ own → (stepping own h body t room).stepped ≡ relays g →
         (g ≡ relayed h.function h) × (h.function ≡ Request → next h.block ≡ 0 → ⊥)
-    step-relays own set mine e =
+    step_relays own set mine e =
         act_relays h.function (next h.block) (ap (λ (s : Step). s.stepped) (sym (for_this own h body t room set mine)) ∙ e)
 
     -- who answers: a station with a 00 behind the first entry, to a request
-    pub step-answers : (own : ℕ) → is_station own t ≡ true → first h.block ≡ own → {reply : List ℕ} → (stepping own h body t room).stepped ≡ answers g reply →
+    pub step_answers : (own : ℕ) → is_station own t ≡ true → first h.block ≡ own → {reply : List ℕ} → (stepping own h body t room).stepped ≡ answers g reply →
         (h.function ≡ Request) × (next h.block ≡ 0)
-    step-answers own set mine {reply} e =
+    step_answers own set mine {reply} e =
         act_either own h body t room (λ (s : Step). s.stepped ≡ answers g reply → (h.function ≡ Request) × (next h.block ≡ 0))
         (λ k x. let z : ◌≡◌ {A = ℕ} 0 1 = cc in absurd (omega arith)) (λ l x. let z : ◌≡◌ {A = ℕ} 0 1 = cc in absurd (omega arith))
         (λ c l x. (c.request, c.last)) mine (ap (λ (s : Step). s.stepped) (sym (for_this own h body t room set mine)) ∙ e)

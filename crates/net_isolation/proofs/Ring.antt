@@ -10,20 +10,20 @@ use Rattle.mop_block.specs.Zipper.{spread, Full, nil, cons, Zipper}
 use Rattle.mop_block.proofs.Stations.{full_append}
 use Rattle.mop_block.proofs.Zipper.{has_view, left_moves}
 use Rattle.net_journey.specs.Terms.{before_zeros}
-use Rattle.net_journey.proofs.Positions.{first-ahead, next-ahead, next_zero}
+use Rattle.net_journey.proofs.Positions.{first_ahead, next_ahead, next_zero}
 use Rattle.net_journey.proofs.Ring.{before_zeros_lem}
 
 module _ (p z : ℕ) {passed : List ℕ} (g : Full passed) where
   abbrev block : List ℕ → List ℕ
   block ahead = spread (suc p ∷ ahead) z passed
 
-  last-ahead : {ahead : List ℕ} → Full ahead → next (block ahead) ≡ 0 → before_zeros (block ahead) ≡ first (block ahead)
-  last-ahead nil e = before_zeros_lem p z nil g ∙ sym (first-ahead p [] z passed)
-  last-ahead (cons {a = q} {xs = ahead} f) e = absurd (next-ahead q ahead z passed (suc p) e)
+  last_ahead : {ahead : List ℕ} → Full ahead → next (block ahead) ≡ 0 → before_zeros (block ahead) ≡ first (block ahead)
+  last_ahead nil e = before_zeros_lem p z nil g ∙ sym (first_ahead p [] z passed)
+  last_ahead (cons {a = q} {xs = ahead} f) e = absurd (next_ahead q ahead z passed (suc p) e)
 
-  more-ahead : {ahead : List ℕ} → Full ahead → (next (block ahead) ≡ 0 → ⊥) → before_zeros (roll_left (block ahead)) ≡ before_zeros (block ahead)
-  more-ahead nil n = absurd (n (next_zero (suc p) z passed))
-  more-ahead (cons {a = q} {xs = ahead} f) n =
+  more_ahead : {ahead : List ℕ} → Full ahead → (next (block ahead) ≡ 0 → ⊥) → before_zeros (roll_left (block ahead)) ≡ before_zeros (block ahead)
+  more_ahead nil n = absurd (n (next_zero (suc p) z passed))
+  more_ahead (cons {a = q} {xs = ahead} f) n =
       ap before_zeros (left_moves (suc p) (suc q ∷ ahead) z passed)
       ∙ before_zeros_lem q z f (full_append g (cons nil)) ∙ sym (before_zeros_lem p z (cons f) g)
 
@@ -32,13 +32,13 @@ module _ (b : List ℕ) (good : good_block b ≡ true) (some : first b ≡ 0 →
   view = has_view b good some
 
   -- a station with a 00 behind it is the destination
-  pub destination-first : next b ≡ 0 → before_zeros b ≡ first b
-  destination-first =
+  pub destination_first : next b ≡ 0 → before_zeros b ≡ first b
+  destination_first =
       subst (λ (l : List ℕ). next l ≡ 0 → before_zeros l ≡ first l) (sym view.is)
-      (last-ahead view.here view.gap view.full_passed view.full_ahead)
+      (last_ahead view.here view.gap view.full_passed view.full_ahead)
 
   -- one with a station behind it is not, and the destination stays
-  pub destination-stays : (next b ≡ 0 → ⊥) → before_zeros (roll_left b) ≡ before_zeros b
-  destination-stays =
+  pub destination_stays : (next b ≡ 0 → ⊥) → before_zeros (roll_left b) ≡ before_zeros b
+  destination_stays =
       subst (λ (l : List ℕ). (next l ≡ 0 → ⊥) → before_zeros (roll_left l) ≡ before_zeros l) (sym view.is)
-      (more-ahead view.here view.gap view.full_passed view.full_ahead)
+      (more_ahead view.here view.gap view.full_passed view.full_ahead)

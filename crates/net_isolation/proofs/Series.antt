@@ -6,15 +6,15 @@ use mathlib.Core.List.{List}
 use Prim.Native.Nat.{ℕ}
 use Rattle.net_journey.specs.Net.{Net, addresses_of, good_net}
 use Rattle.net_journey.specs.Journey.{Course, Journey}
-use Rattle.net_journey.proofs.Whole.{every-journey}
+use Rattle.net_journey.proofs.Whole.{every_journey}
 use Rattle.net_isolation.specs.Series.{Series, EachIsolated, over, next, SeriesIsolated}
 use Rattle.net_isolation.proofs.Journeys.{Kept, journeys_isolated, tables_isolated, stays_good}
 
 -- a journey leaves the stations
 same_after : (net : Net) (tg : List ℕ) (c : Course) → good_net net ≡ true → Journey net tg c → addresses_of c.after ≡ addresses_of net
 same_after net tg c good j =
-    let the = every-journey net tg good in
-    ap (λ (x : Course). addresses_of x.after) (the.only c j) ∙ the.demand3.same-stations
+    let the = every_journey net tg good in
+    ap (λ (x : Course). addresses_of x.after) (the.only c j) ∙ the.demand3.same_stations
 
 -- begun in first and first', and come to net and net'
 series_from : (first first' : Net) (tgs : List (List ℕ)) (net net' : Net) (cs ds : List Course) →

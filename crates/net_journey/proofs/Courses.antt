@@ -14,13 +14,13 @@ use Rattle.mop_reader.specs.declared.Reader.TheVariants.{Station}
 use Rattle.net_journey.specs.Net.{Net, addresses_of, is_there, table_at}
 use Rattle.net_journey.specs.Journey.{at_nobody, refused_with, no_station, station, named, addressee, handler, Course, Journey, ends, refused, sends}
 use Rattle.net_journey.specs.Terms.{sent_only, is_fine, all_fine}
-use Rattle.net_journey.proofs.Net.{addresses-with}
-use Rattle.net_journey.proofs.Outputs.{sent-length}
+use Rattle.net_journey.proofs.Net.{addresses_with}
+use Rattle.net_journey.proofs.Outputs.{sent_length}
 
 pub stations_stay : {net : Net} {tg : List ℕ} {d : Course} → Journey net tg d → addresses_of d.after ≡ addresses_of net
 stations_stay (ends e) = refl
-stations_stay (refused {net = net} {tg = tg} {t = t} {a = a} mine out room e) = addresses-with a (handling a t tg out).registers net
-stations_stay (sends {net = net} {tg = tg} {t = t} {a = a} mine out room e j) = stations_stay j ∙ addresses-with a (handling a t tg out).registers net
+stations_stay (refused {net = net} {tg = tg} {t = t} {a = a} mine out room e) = addresses_with a (handling a t tg out).registers net
+stations_stay (sends {net = net} {tg = tg} {t = t} {a = a} mine out room e j) = stations_stay j ∙ addresses_with a (handling a t tg out).registers net
 
 -- a journey begins with its telegram, and each next one was sent
 begins : {net : Net} {tg : List ℕ} {d : Course} → Journey net tg d → d.transmissions ≡ tg ∷ tail d.transmissions
@@ -35,7 +35,7 @@ pub sent_each : {net : Net} {tg : List ℕ} {d : Course} → Journey net tg d �
 sent_each (ends e) = refl
 sent_each (refused mine out room e) = refl
 sent_each (sends {tg = tg} {t = t} {a = a} {n = n} {rest = rest} mine out room e j) =
-    let long = sym (sent-length a t tg out n room e) in
+    let long = sym (sent_length a t tg out n room e) in
     (λ i. sent (long i) ∷ sent_each j i) ∙ ap (map sending) (sym (begins j))
 
 -- a telegram without a fault that no station is called with ends the journey at 00 or at nobody
@@ -76,16 +76,16 @@ module _ (later : List Handled) (k : ℕ) where
   none_earlier [] e = let x : ◌≡◌ {A = ℕ} 0 1 = cc in omega arith
   none_earlier (x ∷ earlier) e = let y : ◌≡◌ {A = ℕ} 0 1 = cc in omega arith
 
-  sent-refuses : (n : ℕ) {rest : List Handled} → sent n ∷ rest ≡ refuses k ∷ later → ⊥
-  sent-refuses n e = let x : ◌≡◌ {A = ℕ} 0 1 = cc in omega arith
+  sent_refuses : (n : ℕ) {rest : List Handled} → sent n ∷ rest ≡ refuses k ∷ later → ⊥
+  sent_refuses n e = let x : ◌≡◌ {A = ℕ} 0 1 = cc in omega arith
 
-  behind-first : {x y : Handled} {xs ys : List Handled} → x ∷ xs ≡ y ∷ ys → xs ≡ ys
-  behind-first e = cc
+  behind_first : {x y : Handled} {xs ys : List Handled} → x ∷ xs ≡ y ∷ ys → xs ≡ ys
+  behind_first e = cc
 
-  pub last-refused : {net : Net} {tg : List ℕ} {d : Course} → Journey net tg d → (earlier : List Handled) → d.answers ≡ earlier ++ (refuses k ∷ later) →
+  pub last_refused : {net : Net} {tg : List ℕ} {d : Course} → Journey net tg d → (earlier : List Handled) → d.answers ≡ earlier ++ (refuses k ∷ later) →
       length d.transmissions ≡ suc (length earlier)
-  last-refused (ends e) earlier is = absurd (none_earlier earlier is)
-  last-refused (refused mine out room e) [] is = refl
-  last-refused (refused mine out room e) (x ∷ earlier) is = absurd (none_earlier earlier (behind-first is))
-  last-refused (sends {n = n} mine out room e j) [] is = absurd (sent-refuses n is)
-  last-refused (sends mine out room e j) (x ∷ earlier) is = ap suc (last-refused j earlier (behind-first is))
+  last_refused (ends e) earlier is = absurd (none_earlier earlier is)
+  last_refused (refused mine out room e) [] is = refl
+  last_refused (refused mine out room e) (x ∷ earlier) is = absurd (none_earlier earlier (behind_first is))
+  last_refused (sends {n = n} mine out room e j) [] is = absurd (sent_refuses n is)
+  last_refused (sends mine out room e j) (x ∷ earlier) is = ap suc (last_refused j earlier (behind_first is))

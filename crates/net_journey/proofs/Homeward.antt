@@ -20,9 +20,9 @@ use Rattle.net_journey.specs.Journey.{Ending, at_zero, at_nobody, refused_with, 
 use Rattle.net_journey.specs.Terms.{Shown, shows, shown, all_ordinary, all_fine}
 use Rattle.net_journey.specs.Transmissions.{homeward}
 use Rattle.net_journey.proofs.Net.{there_parts, not_there}
-use Rattle.net_journey.proofs.Telegrams.{telegram_for, Faultless, reads-well, still_fine, shown_as, first-is}
-use Rattle.net_journey.proofs.Steps.{ends_zero, stop_nobody, hop-reply}
-use Rattle.net_journey.proofs.Positions.{first-ahead, first-returned, same_ring, moved_back, faultless_at, faultless_home}
+use Rattle.net_journey.proofs.Telegrams.{telegram_for, Faultless, reads_well, still_fine, shown_as, first_is}
+use Rattle.net_journey.proofs.Steps.{ends_zero, stop_nobody, hop_reply}
+use Rattle.net_journey.proofs.Positions.{first_ahead, first_returned, same_ring, moved_back, faultless_at, faultless_home}
 
 -- the replies of a journey home on which every station is there
 pub record Homecoming (c : ℕ) (form : Form) (b body back : List ℕ) (d : Course) : Type 0 where
@@ -61,11 +61,11 @@ most_alone l = omega arith
 most_on : (x l : ℕ) → x ≤ suc l → suc x ≤ suc (suc l)
 most_on x l h = omega arith
 
-none-back : (l z n : ℕ) → suc l + suc z + 0 ≡ n → suc l + suc z ≡ n
-none-back l z n h = omega arith
+none_back : (l z n : ℕ) → suc l + suc z + 0 ≡ n → suc l + suc z ≡ n
+none_back l z n h = omega arith
 
-one-back : (l z k n : ℕ) → suc l + suc z + suc k ≡ n → suc (suc l) + suc z + k ≡ n
-one-back l z k n h = omega arith
+one_back : (l z k n : ℕ) → suc l + suc z + suc k ≡ n → suc (suc l) + suc z + k ≡ n
+one_back l z k n h = omega arith
 
 -- `out` is the output that each call is lent
 module _ (out : List ℕ) (room : call_output ≤ length out) (c : ℕ) (form : Form) (z : ℕ) (body : List ℕ) (net : Net) (fit : good_net net ≡ true) where
@@ -73,10 +73,10 @@ module _ (out : List ℕ) (room : call_output ≤ length out) (c : ℕ) (form : 
   home_zero ahead w =
       let b = returned ahead z in
       let tg = telegram_for Reply c form b body in
-      let zero_first = first-returned ahead z in
+      let zero_first = first_returned ahead z in
       record {
         course = unheard tg net at_zero;
-        journey = ends_zero net tg (remarked (head Reply c form b)) (reads-well Reply c w) (first-is Reply c w zero_first);
+        journey = ends_zero net tg (remarked (head Reply c form b)) (reads_well Reply c w) (first_is Reply c w zero_first);
         most = most_alone 0;
         kept = refl;
         fine = still_fine Reply c w [] refl;
@@ -96,7 +96,7 @@ module _ (out : List ℕ) (room : call_output ≤ length out) (c : ℕ) (form : 
       let tg = telegram_for Reply c form (spread (suc s ∷ ahead) z (reverse back)) body in
       record {
         course = unheard tg net at_nobody;
-        journey = stop_nobody net w s (first-ahead s ahead z (reverse back)) e Reply c;
+        journey = stop_nobody net w s (first_ahead s ahead z (reverse back)) e Reply c;
         most = most_alone (suc (length back));
         kept = refl;
         fine = still_fine Reply c w [] refl;
@@ -107,10 +107,10 @@ module _ (out : List ℕ) (room : call_output ≤ length out) (c : ℕ) (form : 
   home_by s ahead back w r true e =
       let b = spread (suc s ∷ ahead) z (reverse back) in
       let tg = telegram_for Reply c form b body in
-      let mine = first-ahead s ahead z (reverse back) in
+      let mine = first_ahead s ahead z (reverse back) in
       record {
         course = onward tg (length (telegram_for Reply c form (roll_right b) body)) r.course;
-        journey = hop-reply out room net fit w s mine e c r.course r.journey;
+        journey = hop_reply out room net fit w s mine e c r.course r.journey;
         most = most_on (length r.course.transmissions) (length back) r.most;
         kept = r.kept;
         fine = still_fine Reply c w r.course.transmissions r.fine;
@@ -130,10 +130,10 @@ module _ (out : List ℕ) (room : call_output ≤ length out) (c : ℕ) (form : 
         suc (length ahead) + suc z + length back ≡ n → Home net c form (roll_right (spread (suc a ∷ ahead) z (reverse back))) body back
     home a {ahead} f nil e count =
         subst (λ (b : List ℕ). Home net c form b body []) (sym (right_returns (suc a ∷ ahead) z))
-        (home_zero (suc a ∷ ahead) (faultless_home form z ring n once size (suc a ∷ ahead) body (cons f) e (none-back (length ahead) z n count) short))
+        (home_zero (suc a ∷ ahead) (faultless_home form z ring n once size (suc a ∷ ahead) body (cons f) e (none_back (length ahead) z n count) short))
     home a {ahead} f (cons {a = s} {xs = back} g) e count =
         let e' = sym (same_ring s (suc a ∷ ahead) back) ∙ e in
-        let count' = one-back (length ahead) z (length back) n count in
+        let count' = one_back (length ahead) z (length back) n count in
         subst (λ (b : List ℕ). Home net c form b body (suc s ∷ back)) (sym (moved_back s (suc a ∷ ahead) back z))
         (home_by s (suc a ∷ ahead) back (faultless_at form z ring n once size body (cons (cons f)) g e' count' short)
         (home s (cons f) g e' count') (is_there (suc s) net) refl)

@@ -52,16 +52,16 @@ table_same a t [] h = absurd (false≢true h)
 table_same a t (s ∷ net) h = same_first a t s net (table_same a t net) (eqb a s.address) refl h
 
 -- the stations stay
-pub addresses-with : (a : ℕ) (t : List ℕ) (net : Net) → addresses_of (with_table a t net) ≡ addresses_of net
+pub addresses_with : (a : ℕ) (t : List ℕ) (net : Net) → addresses_of (with_table a t net) ≡ addresses_of net
 unfolding with_table
-addresses-with a t [] = refl
-addresses-with a t (s ∷ net) =
+addresses_with a t [] = refl
+addresses_with a t (s ∷ net) =
     pick_either (λ (n : Net). addresses_of n ≡ addresses_of (s ∷ net)) (eqb a s.address) refl
-    (ap (λ (l : List ℕ). s.address ∷ l) (addresses-with a t net))
+    (ap (λ (l : List ℕ). s.address ∷ l) (addresses_with a t net))
 
 pub there_with : (b a : ℕ) (t : List ℕ) (net : Net) → is_there b (with_table a t net) ≡ is_there b net
 unfolding is_there
-there_with b a t net = ap (has b) (addresses-with a t net)
+there_with b a t net = ap (has b) (addresses_with a t net)
 
 pub all_there_with : (l : List ℕ) (a : ℕ) (t : List ℕ) (net : Net) → all_there l (with_table a t net) ≡ all_there l net
 unfolding all_there
@@ -85,7 +85,7 @@ pub good_with : (a : ℕ) (t : List ℕ) (net : Net) → good_net net ≡ true �
 unfolding good_net
 good_with a t net g e =
     let both = good_parts net g in
-    rw (addresses-with a t net, both.0, right_with a t net both.1 e)
+    rw (addresses_with a t net, both.0, right_with a t net both.1 e)
 
 right_first : (a : ℕ) (s : NetStation) (net : Net) → eqb (length s.registers) table_length ≡ true →
     (has a (addresses_of net) ≡ true → length (table_at a net) ≡ table_length) →
@@ -103,17 +103,17 @@ right_table a (s ∷ net) r h =
 pub good_table : (a : ℕ) (net : Net) → good_net net ≡ true → is_there a net ≡ true → length (table_at a net) ≡ table_length
 good_table a net g h = right_table a net (good_parts net g).1 h
 
-address-first : (a x : ℕ) (xs : List ℕ) → is_address x ≡ true → (has a xs ≡ true → is_address a ≡ true) →
+address_first : (a x : ℕ) (xs : List ℕ) → is_address x ≡ true → (has a xs ≡ true → is_address a ≡ true) →
     (c : Bool) → eqb a x ≡ c → (c || has a xs) ≡ true → is_address a ≡ true
-address-first a x xs r e true ec h = rw (eqb-true a x ec) r
-address-first a x xs r e false ec h = e h
+address_first a x xs r e true ec h = rw (eqb-true a x ec) r
+address_first a x xs r e false ec h = e h
 
 distinct_address : (a : ℕ) (xs : List ℕ) → distinct_addresses xs ≡ true → has a xs ≡ true → is_address a ≡ true
 unfolding distinct_addresses has
 distinct_address a [] r h = absurd (false≢true h)
 distinct_address a (x ∷ xs) r h =
     let both = (and-eq-true_iff (is_address x && not (has x xs)) (distinct_addresses xs)).0 r in
-    address-first a x xs ((and-eq-true_iff (is_address x) (not (has x xs))).0 both.0).0 (distinct_address a xs both.1) (eqb a x) refl h
+    address_first a x xs ((and-eq-true_iff (is_address x) (not (has x xs))).0 both.0).0 (distinct_address a xs both.1) (eqb a x) refl h
 
 pub good_address : (a : ℕ) (net : Net) → good_net net ≡ true → is_there a net ≡ true → is_address a ≡ true
 unfolding is_there

@@ -10,7 +10,7 @@ use borrow.Author.Tests.{eqb-true, eqb-false}
 use lib.Dec.{eqb}
 use lib.ListN.{length, take}
 use Rattle.base.specs.Places.{placed}
-use Rattle.base.proofs.Places.{take-placed}
+use Rattle.base.proofs.Places.{take_placed}
 use Rattle.mop_registers.specs.Rows.{table_length}
 use Rattle.mop_block.specs.Block.{is_address, first, next}
 use Rattle.mop_header.specs.Header.{Head, telegram_of, body_of, rolled_left, sent_back}
@@ -23,7 +23,7 @@ use Rattle.mop_step.specs.Step.{Step, is_station, replied}
 use Rattle.mop_station.specs.Station.{Handled, sent, not_mine, refuses, Handling, leaving, sending_by, taking, handling}
 use Rattle.mop_step.proofs.Steps.{for_another}
 use Rattle.mop_station.proofs.Telegrams.{not_set_up, heard}
-use Rattle.mop_step.proofs.Stations.{is-station}
+use Rattle.mop_step.proofs.Stations.{is_station_lem}
 use Rattle.net_journey.specs.Journey.{call_output}
 use Rattle.net_journey.proofs.Calls.{call_fault, call_reply, call_request, call_accepted, call_rejected}
 
@@ -43,8 +43,8 @@ refuses_silent k n e = let z : ◌≡◌ {A = ℕ} 0 1 = cc in omega arith
 not_mine_silent : Silent not_mine
 not_mine_silent n e = let z : ◌≡◌ {A = ℕ} 0 1 = cc in omega arith
 
-sent-once : (m n : ℕ) → sent m ≡ sent n → m ≡ n
-sent-once m n e = cc
+sent_once : (m n : ℕ) → sent m ≡ sent n → m ≡ n
+sent_once m n e = cc
 
 -- the two things that a call comes to, whatever the output
 data Call (own : ℕ) (t tg : List ℕ) : Type 0 where
@@ -80,7 +80,7 @@ module _ (own : ℕ) (t tg : List ℕ) where
       by_first true e = by_function (eqb-true (first h.block) own e) h.function refl
       by_first false e =
           let body = body_of h tg in
-          let set = is-station own t address long in
+          let set = is_station_lem own t address long in
           silent not_mine not_mine_silent
           (λ out room. heard own t tg out set h order
           ∙ ap (λ (s : Step). taking s body out) (for_another own h body t (length out) set (eqb-false (first h.block) own e)))
@@ -97,9 +97,9 @@ module _ (own : ℕ) (t tg : List ℕ) where
   by_station false e = silent (refuses 1) (refuses_silent 1) (λ out room. not_set_up own t tg out e)
 
 -- the bytes placed are the same in both outputs
-taken-same : (x out out₂ : List ℕ) (n : ℕ) → length x ≡ n → take n (placed x out) ≡ take n (placed x out₂)
-taken-same x out out₂ n e =
-    subst (λ (m : ℕ). take m (placed x out) ≡ take m (placed x out₂)) e (take-placed x out ∙ sym (take-placed x out₂))
+taken_same : (x out out₂ : List ℕ) (n : ℕ) → length x ≡ n → take n (placed x out) ≡ take n (placed x out₂)
+taken_same x out out₂ n e =
+    subst (λ (m : ℕ). take m (placed x out) ≡ take m (placed x out₂)) e (take_placed x out ∙ sym (take_placed x out₂))
 
 same_by : (own : ℕ) (t tg out out₂ : List ℕ) → call_output ≤ length out → call_output ≤ length out₂ → Call own t tg →
     SameCall (handling own t tg out) (handling own t tg out₂)
@@ -107,21 +107,21 @@ same_by own t tg out out₂ room room₂ (silent v s e) =
     rw (e out room, e out₂ room₂) (record { handled = refl; registers = refl; bytes = λ n g. absurd (s n g) })
 same_by own t tg out out₂ room room₂ (sending x after e) =
     rw (e out room, e out₂ room₂)
-    (record { handled = refl; registers = refl; bytes = λ n g. taken-same x out out₂ n (sent-once (length x) n g) })
+    (record { handled = refl; registers = refl; bytes = λ n g. taken_same x out out₂ n (sent_once (length x) n g) })
 
-pub any-output : (a : ℕ) (t tg out out₂ : List ℕ) → call_output ≤ length out → call_output ≤ length out₂ →
+pub any_output : (a : ℕ) (t tg out out₂ : List ℕ) → call_output ≤ length out → call_output ≤ length out₂ →
     SameCall (handling a t tg out) (handling a t tg out₂)
-any-output a t tg out out₂ room room₂ = same_by a t tg out out₂ room room₂ (by_station a t tg (is_station a t) refl)
+any_output a t tg out out₂ room room₂ = same_by a t tg out out₂ room room₂ (by_station a t tg (is_station a t) refl)
 
 -- the bytes sent are as many as the answer says
 long_by : (own : ℕ) (t tg out : List ℕ) (n : ℕ) → call_output ≤ length out → Call own t tg → (handling own t tg out).handled ≡ sent n →
     length (take n (handling own t tg out).output) ≡ n
 long_by own t tg out n room (silent v s e) g = absurd (s n (sym (ap (λ (h : Handling). h.handled) (e out room)) ∙ g))
 long_by own t tg out n room (sending x after e) g =
-    let same : length x ≡ n = sent-once (length x) n (sym (ap (λ (h : Handling). h.handled) (e out room)) ∙ g) in
+    let same : length x ≡ n = sent_once (length x) n (sym (ap (λ (h : Handling). h.handled) (e out room)) ∙ g) in
     subst (λ (m : ℕ). length (take m (handling own t tg out).output) ≡ m) same
-    (ap (λ (h : Handling). length (take (length x) h.output)) (e out room) ∙ ap length (take-placed x out))
+    (ap (λ (h : Handling). length (take (length x) h.output)) (e out room) ∙ ap length (take_placed x out))
 
-pub sent-length : (a : ℕ) (t tg out : List ℕ) (n : ℕ) → call_output ≤ length out → (handling a t tg out).handled ≡ sent n →
+pub sent_length : (a : ℕ) (t tg out : List ℕ) (n : ℕ) → call_output ≤ length out → (handling a t tg out).handled ≡ sent n →
     length (take n (handling a t tg out).output) ≡ n
-sent-length a t tg out n room = long_by a t tg out n room (by_station a t tg (is_station a t) refl)
+sent_length a t tg out n room = long_by a t tg out n room (by_station a t tg (is_station a t) refl)

@@ -19,21 +19,21 @@ use Rattle.net_journey.proofs.Telegrams.{Faultless}
 
 -- the first entries of a block
 module _ (p : ℕ) (ahead : List ℕ) (z : ℕ) (passed : List ℕ) where
-  pub first-ahead : first (spread (suc p ∷ ahead) z passed) ≡ suc p
+  pub first_ahead : first (spread (suc p ∷ ahead) z passed) ≡ suc p
   unfolding first
-  first-ahead = refl
+  first_ahead = refl
 
-  pub next-ahead : (a : ℕ) → next (spread (a ∷ suc p ∷ ahead) z passed) ≡ 0 → ⊥
+  pub next_ahead : (a : ℕ) → next (spread (a ∷ suc p ∷ ahead) z passed) ≡ 0 → ⊥
   unfolding next
-  next-ahead a e = omega arith
+  next_ahead a e = omega arith
 
 pub next_zero : (a z : ℕ) (passed : List ℕ) → next (spread (a ∷ []) z passed) ≡ 0
 unfolding next
 next_zero a z passed = refl
 
-pub first-returned : (ahead : List ℕ) (z : ℕ) → first (returned ahead z) ≡ 0
+pub first_returned : (ahead : List ℕ) (z : ℕ) → first (returned ahead z) ≡ 0
 unfolding first
-first-returned ahead z = refl
+first_returned ahead z = refl
 
 -- the station that is moved, by a roll, between the ones ahead and the ones passed
 module _ (s : ℕ) (ahead back : List ℕ) where
@@ -46,15 +46,15 @@ module _ (s : ℕ) (ahead back : List ℕ) where
   pub moved_back : (z : ℕ) → roll_right (spread ahead z (reverse (suc s ∷ back))) ≡ spread (suc s ∷ ahead) z (reverse back)
   moved_back z = rw reverse-cons (right_moves ahead z (reverse back) (suc s))
 
-pub length-spread : (ahead : List ℕ) (z : ℕ) (back : List ℕ) → length (spread ahead z (reverse back)) ≡ length ahead + suc z + length back
-length-spread ahead z back = simp (length-append, length-replicate, length-reverse) (omega arith)
+pub length_spread : (ahead : List ℕ) (z : ℕ) (back : List ℕ) → length (spread ahead z (reverse back)) ≡ length ahead + suc z + length back
+length_spread ahead z back = simp (length-append, length-replicate, length-reverse) (omega arith)
 
 -- the stations in the order of the ring, and the block's length, stay
 module _ (form : Form) (z : ℕ) (ring : List ℕ) (n : ℕ) (once : Once ring) (size : sized form n ≡ true) where
   pub faultless_at : {ahead back : List ℕ} (body : List ℕ) → Full ahead → Full back → reverse back ++ ahead ≡ ring →
       length ahead + suc z + length back ≡ n → header_room form n + length body ≤ max_telegram → Faultless form (spread ahead z (reverse back)) body
   faultless_at {ahead} {back} body f g e count short =
-      let long : length (spread ahead z (reverse back)) ≡ n = length-spread ahead z back ∙ count in
+      let long : length (spread ahead z (reverse back)) ≡ n = length_spread ahead z back ∙ count in
       record {
         good = view_is_good ahead z (reverse back) f (full_reverse g) (subst Once (sym e) once);
         size = rw long size;

@@ -15,17 +15,17 @@ last_of [] = 0
 last_of (x ∷ []) = x
 last_of (x ∷ y ∷ xs) = last_of (y ∷ xs)
 
-pub last-append : (xs : List ℕ) (y : ℕ) (ys : List ℕ) → last_of (xs ++ (y ∷ ys)) ≡ last_of (y ∷ ys)
-last-append [] y ys = refl
-last-append (x ∷ []) y ys = refl
-last-append (x ∷ w ∷ xs) y ys = last-append (w ∷ xs) y ys
+pub last_append : (xs : List ℕ) (y : ℕ) (ys : List ℕ) → last_of (xs ++ (y ∷ ys)) ≡ last_of (y ∷ ys)
+last_append [] y ys = refl
+last_append (x ∷ []) y ys = refl
+last_append (x ∷ w ∷ xs) y ys = last_append (w ∷ xs) y ys
 
-pub last-at : (l : List ℕ) → get_or l (length l - 1) 0 ≡ last_of l
-last-at [] = refl
-last-at (x ∷ []) = refl
-last-at (x ∷ y ∷ l) =
+pub last_at : (l : List ℕ) → get_or l (length l - 1) 0 ≡ last_of l
+last_at [] = refl
+last_at (x ∷ []) = refl
+last_at (x ∷ y ∷ l) =
     let less : length (x ∷ y ∷ l) - 1 ≡ suc (length (y ∷ l) - 1) = omega arith in
-    rw less (last-at (y ∷ l))
+    rw less (last_at (y ∷ l))
 
 -- stations, and a 00 behind them
 before_full : (p : ℕ) {ahead : List ℕ} → Full ahead → (ys : List ℕ) → before_zero (suc p ∷ (ahead ++ (0 ∷ ys))) ≡ last_of (suc p ∷ ahead)
@@ -49,7 +49,7 @@ pub none_passed : (ahead : List ℕ) (z : ℕ) {passed : List ℕ} → Full pass
 none_passed ahead z nil e = refl
 none_passed ahead z (cons {a = a} {xs = xs} f) e =
     let apart : spread ahead z (suc a ∷ xs) ≡ (ahead ++ (0 ∷ zeros z)) ++ (suc a ∷ xs) = simp append_assoc in
-    absurd (last_full a f (sym (ap last_of apart ∙ last-append (ahead ++ (0 ∷ zeros z)) (suc a) xs) ∙ e))
+    absurd (last_full a f (sym (ap last_of apart ∙ last_append (ahead ++ (0 ∷ zeros z)) (suc a) xs) ∙ e))
 
 -- a block that names nobody begins with 00, and one that begins with a station names somebody
 pub none_named : (b : List ℕ) → length (stations b) ≡ 0 → first b ≡ 0

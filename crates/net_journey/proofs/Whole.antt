@@ -12,8 +12,8 @@ use Rattle.mop_block.proofs.Stations.{named_bound}
 use Rattle.mop_header.specs.Header.{Head, body_of}
 use Rattle.mop_reader.specs.Reading.{Reading, sound, faulty, good_for, reading}
 use Rattle.mop_reader.specs.declared.Reader.TheVariants.{Station}
-use Rattle.mop_reader.proofs.Sizes.{sized-most}
-use Rattle.mop_reader.proofs.ReadBack.{is-written}
+use Rattle.mop_reader.proofs.Sizes.{sized_most}
+use Rattle.mop_reader.proofs.ReadBack.{is_written}
 use Rattle.net_journey.specs.Net.{Net, good_net, table_at, with_table}
 use Rattle.net_journey.specs.Journey.{Ending, refused_with, Course, unheard, call_output, Journey}
 use Rattle.net_journey.specs.Terms.{m, before_zeros, WrittenBy}
@@ -28,10 +28,10 @@ use Rattle.net_journey.proofs.Calls.{call_fault}
 use Rattle.net_journey.proofs.Ring.{none_named, some_named}
 use Rattle.net_journey.proofs.Unique.{unique}
 use Rattle.net_journey.proofs.Bounded.{plays}
-use Rattle.net_journey.proofs.Steps.{ends-faulty, ends_zero, ends_nobody}
-use Rattle.net_journey.proofs.Courses.{stations_stay, given_by, last-refused, sent_each}
+use Rattle.net_journey.proofs.Steps.{ends_faulty, ends_zero, ends_nobody}
+use Rattle.net_journey.proofs.Courses.{stations_stay, given_by, last_refused, sent_each}
 use Rattle.net_journey.proofs.Start.{Ran, Start, start}
-use Rattle.net_journey.proofs.Fresh.{writes-all, fulfilled, in_bytes}
+use Rattle.net_journey.proofs.Fresh.{writes_all, fulfilled, in_bytes}
 
 -- where one table at most changed, the others are as before
 other_kept : {F : Type 0} (net after : Net) (a d : ℕ) (body : List ℕ) → (after ≡ net) ⊎ (F × Carries net d body after) → (a ≡ d → ⊥) → table_at a after ≡ table_at a net
@@ -51,7 +51,7 @@ changed net fit h body c (inr x) =
       request = x.0;
       accepted = y.accepted;
       written = subst (λ (u : List ℕ). WrittenBy body (table_at a net) u) (sym now)
-          (writes-all body (table_at a net) y.accepted (good_table a net fit y.there));
+          (writes_all body (table_at a net) y.accepted (good_table a net fit y.there));
       others = y.is ∙ ap (λ (u : List ℕ). with_table a u net) (sym now);
     })
 
@@ -63,31 +63,31 @@ module _ (net : Net) (tg : List ℕ) (fit : good_net net ≡ true) where
   ran : {c : Course} → Journey net tg c → (h : Head) → reading Station tg ≡ sound h → Ran net h (body_of h tg) c
   ran j h order = let s = started h order in subst (Ran net h (body_of h tg)) (unique s.journey j) s.ran
 
-  refused-kept : {c : Course} → Journey net tg c → (r : Reading) → reading Station tg ≡ r → (k : ℕ) → c.ending ≡ refused_with k → c.after ≡ net
-  refused-kept j (faulty k) e n is = ap (λ (d : Course). d.after) (unique j (ends-faulty net tg k e))
-  refused-kept j (sound h) e n is = (ran j h e).refused-keeps n is
+  refused_kept : {c : Course} → Journey net tg c → (r : Reading) → reading Station tg ≡ r → (k : ℕ) → c.ending ≡ refused_with k → c.after ≡ net
+  refused_kept j (faulty k) e n is = ap (λ (d : Course). d.after) (unique j (ends_faulty net tg k e))
+  refused_kept j (sound h) e n is = (ran j h e).refused_keeps n is
 
   demand3 : {c : Course} → Journey net tg c → Demand3 net tg c
   demand3 {c} j = record {
     fault_refused = λ k e own t out address long. call_fault own t tg out k e address long;
-    fault_ends = λ k e. unique j (ends-faulty net tg k e);
+    fault_ends = λ k e. unique j (ends_faulty net tg k e);
     none_named = λ h order e. unique j (ends_zero net tg h order (none_named h.block e));
     zero_first = λ h order e. unique j (ends_zero net tg h order e);
     nobodys_first = λ h order n none. unique j (ends_nobody net tg h order (first h.block) refl n none);
     at_most = λ h order some. (ran j h order).most some;
-    refused-last = λ earlier later k e. last-refused later k j earlier e;
+    refused_last = λ earlier later k e. last_refused later k j earlier e;
     refused_by = λ h order k e. given_by j (ran j h order).fine k e;
     accomplished = λ h order fresh all verdict.
-        fulfilled net h (body_of h tg) c ((ran j h order).fresh fresh all verdict) fit (some_named h.block fresh.first-named) all verdict;
+        fulfilled net h (body_of h tg) c ((ran j h order).fresh fresh all verdict) fit (some_named h.block fresh.first_named) all verdict;
     declined = λ h order fresh all k verdict. (ran j h order).stopped fresh all k verdict;
     unreached = λ h order fresh some. (ran j h order).unreached fresh some;
     changes = λ h order. changed net fit h (body_of h tg) c (ran j h order).changes;
-    others-kept = λ h order a n. other_kept net c.after a (before_zeros h.block) (body_of h tg) (ran j h order).changes n;
-    same-stations = stations_stay j;
-    sent-next = sent_each j;
-    refused-keeps = refused-kept j (reading Station tg) refl;
+    others_kept = λ h order a n. other_kept net c.after a (before_zeros h.block) (body_of h tg) (ran j h order).changes n;
+    same_stations = stations_stay j;
+    sent_next = sent_each j;
+    refused_keeps = refused_kept j (reading Station tg) refl;
     all_fine_lem = λ h order. (ran j h order).fine;
-    all-ordinary = λ h order. (ran j h order).plain;
+    all_ordinary_lem = λ h order. (ran j h order).plain;
   }
 
   given : {c : Course} → Journey net tg c → TheJourney net tg
@@ -95,23 +95,23 @@ module _ (net : Net) (tg : List ℕ) (fit : good_net net ≡ true) where
 
   -- by what reading says
   by_reading : (r : Reading) → reading Station tg ≡ r → TheJourney net tg
-  by_reading (faulty k) e = given (ends-faulty net tg k e)
+  by_reading (faulty k) e = given (ends_faulty net tg k e)
   by_reading (sound h) e = given (started h e).journey
 
-pub every-journey : EveryJourney
-every-journey net tg fit = by_reading net tg fit (reading Station tg) refl
+pub every_journey : EveryJourney
+every_journey net tg fit = by_reading net tg fit (reading Station tg) refl
 
 pub byte_for_byte : ByteForByte
 byte_for_byte net tg c fit j h order fresh all verdict =
-    in_bytes net h (body_of h tg) c ((ran net tg fit j h order).fresh fresh all verdict) fresh.request (is-written Station tg h order).order.mark
+    in_bytes net h (body_of h tg) c ((ran net tg fit j h order).fresh fresh all verdict) fresh.request (is_written Station tg h order).order.mark
 
 -- the bounds
 pub names_at_most_31 : NamesAtMost31
 unfolding good_for
 names_at_most_31 tg h order =
-    let well = is-written Station tg h order in
+    let well = is_written Station tg h order in
     let some-zero = named_bound h.block well.order.block in
-    let entries = sized-most h.form (length h.block) well.order.size in
+    let entries = sized_most h.form (length h.block) well.order.size in
     omega arith
 
 twice : (x n : ℕ) → x ≤ 2 * n → n ≤ most_named → x ≤ most_transmissions
@@ -121,19 +121,19 @@ one_transmission : {c : Course} (tg : List ℕ) (net : Net) {e : Ending} → c �
 one_transmission tg net e = rw e (omega arith)
 
 module _ (net : Net) (tg : List ℕ) (c : Course) (d : Demand3 net tg c) where
-  most-named : (h : Head) → reading Station tg ≡ sound h → (n : ℕ) → m h ≡ n → length c.transmissions ≤ most_transmissions
-  most-named h order zero e = one_transmission tg net (d.none_named h order e)
-  most-named h order (suc n) e =
+  most_named_lem : (h : Head) → reading Station tg ≡ sound h → (n : ℕ) → m h ≡ n → length c.transmissions ≤ most_transmissions
+  most_named_lem h order zero e = one_transmission tg net (d.none_named h order e)
+  most_named_lem h order (suc n) e =
       twice (length c.transmissions) (m h) (d.at_most h order (rw e (omega arith))) (names_at_most_31 tg h order)
 
   most_by : (r : Reading) → reading Station tg ≡ r → length c.transmissions ≤ most_transmissions
   most_by (faulty k) e = one_transmission tg net (d.fault_ends k e)
-  most_by (sound h) e = most-named h e (m h) refl
+  most_by (sound h) e = most_named_lem h e (m h) refl
 
 pub at_most_62 : AtMost62
 at_most_62 net tg c fit j = most_by net tg c (demand3 net tg fit j) (reading Station tg) refl
 
 pub plays_the_journey : PlaysTheJourney
 plays_the_journey net tg fit =
-    let t = every-journey net tg fit in
+    let t = every_journey net tg fit in
     subst (Journey net tg) (sym (plays most_transmissions t.journey (at_most_62 net tg t.course fit t.journey))) t.journey

@@ -52,7 +52,7 @@ pub record Demand3 (net : Net) (tg : List ℕ) (c : Course) : Type 0 where
   -- m at least 1: at most 2m transmissions in all
   pub at_most : (h : Head) → reading Station tg ≡ sound h → 1 ≤ m h → length c.transmissions ≤ 2 * m h
   -- after a refused one none follows: if the station called with transmission i + 1 refuses, there are i + 1 in all
-  pub refused-last : (earlier later : List Handled) (k : ℕ) → c.answers ≡ earlier ++ (refuses k ∷ later) →
+  pub refused_last : (earlier later : List Handled) (k : ℕ) → c.answers ≡ earlier ++ (refuses k ∷ later) →
       length c.transmissions ≡ suc (length earlier)
   -- a fresh request, all m stations there: its destination accepts it, or rejects it with k and there are m transmissions. One of
   -- them not there: the last transmission is the request to the first such
@@ -63,21 +63,21 @@ pub record Demand3 (net : Net) (tg : List ℕ) (c : Course) : Type 0 where
   pub unreached : (h : Head) → reading Station tg ≡ sound h → Fresh h → all_there (stations h.block) net ≡ false →
       Unanswered net (body_of h tg) (up_to_missing (stations h.block) net) at_nobody c
   -- accepted or not, and whatever the first telegram was, all tables stay except that of the station before the 00s
-  pub others-kept : (h : Head) → reading Station tg ≡ sound h → (a : ℕ) → (a ≡ before_zeros h.block → ⊥) →
+  pub others_kept : (h : Head) → reading Station tg ≡ sound h → (a : ℕ) → (a ≡ before_zeros h.block → ⊥) →
       table_at a c.after ≡ table_at a net
   -- and that one only by the values of a request that it accepts
   pub changes : (h : Head) → reading Station tg ≡ sound h → (c.after ≡ net) ⊎ Carried net h (body_of h tg) c
   -- no station comes or goes
-  pub same-stations : addresses_of c.after ≡ addresses_of net
+  pub same_stations : addresses_of c.after ≡ addresses_of net
   -- every transmission behind the first was sent by a called station, which gave its length
-  pub sent-next : sent_only c.answers ≡ map (λ (next : List ℕ). sent (length next)) (tail c.transmissions)
+  pub sent_next : sent_only c.answers ≡ map (λ (next : List ℕ). sent (length next)) (tail c.transmissions)
   -- where the journey ends with a refusal no table has changed; and unless the first telegram has a fault, a called station gave it
-  pub refused-keeps : (k : ℕ) → c.ending ≡ refused_with k → c.after ≡ net
+  pub refused_keeps : (k : ℕ) → c.ending ≡ refused_with k → c.after ≡ net
   pub refused_by : (h : Head) → reading Station tg ≡ sound h → (k : ℕ) → c.ending ≡ refused_with k →
       (earlier : List Handled) × (c.answers ≡ earlier ++ (refuses k ∷ []))
   -- if the first telegram has no such fault, no transmission has one; and no called station gives 1, 11, 12, 2 to 6 or "not mine"
   pub all_fine_lem : (h : Head) → reading Station tg ≡ sound h → all_fine c.transmissions ≡ true
-  pub all-ordinary : (h : Head) → reading Station tg ≡ sound h → all_ordinary c.answers ≡ true
+  pub all_ordinary_lem : (h : Head) → reading Station tg ≡ sound h → all_ordinary c.answers ≡ true
 
 -- a first telegram has a journey, only one, and demand 3 holds of it
 pub record TheJourney (net : Net) (tg : List ℕ) : Type 0 where

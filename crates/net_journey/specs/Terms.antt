@@ -19,7 +19,7 @@ m h = length (stations h.block)
 -- "fresh", of a telegram without a fault in its header: a request whose block begins with a station and ends with a 00
 pub record Fresh (h : Head) : Type 0 where
   pub request : h.function ≡ Request
-  pub first-named : first h.block ≡ 0 → ⊥
+  pub first_named : first h.block ≡ 0 → ⊥
   pub last_zero : get_or h.block (length h.block - 1) 0 ≡ 0
 
 -- the first station of a list that a 00 follows at once

@@ -20,7 +20,7 @@ use Rattle.mop_step.specs.Body.{accepts, judged_body, after_writes}
 use Rattle.mop_step.proofs.Bodies.{accepted}
 use Rattle.mop_station.specs.Station.{handling}
 use Rattle.mop_station.specs.Safety.{CarriesOutTelegram}
-use Rattle.mop_station.proofs.Safety.{only-destination-writes}
+use Rattle.mop_station.proofs.Safety.{only_destination_writes}
 use Rattle.net_journey.specs.Net.{Net, is_there, table_at, with_table}
 use Rattle.net_journey.specs.Journey.{at_nobody, no_station, station, named, addressee, handler, ends, refused, sends}
 use Rattle.net_journey.proofs.Net.{table_same, table_other}
@@ -35,7 +35,7 @@ unfolding after_writes
 carried_in_range body t verdict = writes_in_range t (write_start body) (values_of body) (accepted body verdict).in_range
 
 pub station_in_range : StationInRange
-station_in_range own t telegram out = go (handling own t telegram out).registers (only-destination-writes own t telegram out)
+station_in_range own t telegram out = go (handling own t telegram out).registers (only_destination_writes own t telegram out)
   where
     go : (after : List ℕ) → (after ≡ t) ⊎ CarriesOutTelegram own t telegram after → KeptOrInRange t after
     go after (inl e) = same_in_range t after e

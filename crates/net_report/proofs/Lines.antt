@@ -24,10 +24,10 @@ module _ (bs : List ℕ) (i : ℕ) where
   hex_end h = rw (drop_of_length-le bs h)
 
 -- the line, with the byte that stands for the function
-pub line-parts : (number : ℕ) (h : Head) (byte : ℕ) → byte ≡ function_byte h.function →
+pub line_parts : (number : ℕ) (h : Head) (byte : ℕ) → byte ≡ function_byte h.function →
     ((decimal number ++ hex_bytes (byte ∷ [])) ++ hex_bytes h.block) ++ (line_feed ∷ []) ≡ head_line number h
 unfolding head_line hex_bytes
-line-parts number h byte f = rw f
+line_parts number h byte f = rw f
     (append_assoc (decimal number ++ hex_bytes (function_byte h.function ∷ [])) (hex_bytes h.block) (line_feed ∷ [])
     ∙ append_assoc (decimal number) (hex_bytes (function_byte h.function ∷ [])) (hex_bytes h.block ++ (line_feed ∷ [])))
 
@@ -35,6 +35,6 @@ pub line_read : (number : ℕ) (tg : List ℕ) {h : Head} → reading Station tg
 unfolding line line_of
 line_read number tg e = rw e
 
-pub closing-parts : (count : ℕ) (e : Ending) → (sent_text count ++ ending_text e) ++ (line_feed ∷ []) ≡ closing count e
+pub closing_parts : (count : ℕ) (e : Ending) → (sent_text count ++ ending_text e) ++ (line_feed ∷ []) ≡ closing count e
 unfolding closing
-closing-parts count e = append_assoc (sent_text count) (ending_text e) (line_feed ∷ [])
+closing_parts count e = append_assoc (sent_text count) (ending_text e) (line_feed ∷ [])

@@ -9,7 +9,7 @@ use borrow.Author.Tests.{lt-ltb, le-ltb}
 use lib.ListN.{length}
 use Rattle.base.specs.Filling.{filled, refused}
 use Rattle.base.specs.Private.Writing.{Writing, writing_of, writing}
-use Rattle.base.proofs.Places.{sets-placed}
+use Rattle.base.proofs.Places.{sets_placed}
 use Rattle.base.proofs.Writing.{same_place}
 use Rattle.mop_reader.specs.Reading.{Reading, reading}
 use Rattle.mop_reader.specs.declared.Reader.TheVariants.{Station}
@@ -38,4 +38,4 @@ pub tells_text : (text : List ℕ) {r : ℕ} (tables : List ℕ) {output : List 
 unfolding tells
 tells_text text tables out e room =
     let long = same_place e ∙ zero-add (length text) in
-    ap (λ (w : Writing). leaves (filled w.at) tables w.output) e ∙ rw (zero-add (length text), sets-placed text out (rw long at room))
+    ap (λ (w : Writing). leaves (filled w.at) tables w.output) e ∙ rw (zero-add (length text), sets_placed text out (rw long at room))

@@ -15,8 +15,8 @@ use Rattle.mop_header.specs.Header.{Head, head_of, block_start, header_length, t
 use Rattle.mop_header.specs.declared.Header.{Header}
 use Rattle.mop_reader.specs.declared.Reader.TheVariants.{Station}
 use Rattle.mop_reader.specs.Reading.{sound, reading}
-use Rattle.mop_reader.proofs.ReadBack.{is-written}
-use Rattle.mop_reader.proofs.Sizes.{sized-most}
+use Rattle.mop_reader.proofs.ReadBack.{is_written}
+use Rattle.mop_reader.proofs.Sizes.{sized_most}
 use Rattle.mop_station.specs.Station.{Handled}
 use Rattle.net_journey.specs.Net.{Net}
 use Rattle.net_journey.specs.Journey.{Ending, at_zero, Course, onward}
@@ -25,7 +25,7 @@ use Rattle.net_hop.specs.Tables.{net_of, tables_of, set_up}
 use Rattle.net_hop.specs.Private.Ways.{OnItsWay}
 use Rattle.net_hop.proofs.Tables.{same_tables}
 use Rattle.net_hop.proofs.Hops.{Goes, ended_by, Ends}
-use Rattle.net_hop.proofs.Lent.{whole-telegram}
+use Rattle.net_hop.proofs.Lent.{whole_telegram}
 use Rattle.net_report.specs.Text.{head_line, line, lines, closing, course_text}
 use Rattle.net_report.specs.Report.{Report, leaves, report_output, tells_course}
 use Rattle.net_report.specs.Private.Legs.{most_characters, rest_text, ends_with, telling, telling_from, ToldSoFar}
@@ -35,13 +35,13 @@ use Rattle.net_report.proofs.Reporting.{tells_text}
 -- a telegram on its way has at most 32 entries
 pub few_entries : {addresses places tables : List ℕ} {told : ℕ} {h : Head} {body : List ℕ} → OnItsWay addresses places tables told h body →
     length h.block ≤ 32
-few_entries {h = h} {body = body} w = sized-most h.form (length h.block) (is-written Station (telegram_of h body) h w.order).order.size
+few_entries {h = h} {body = body} w = sized_most h.form (length h.block) (is_written Station (telegram_of h body) h w.order).order.size
 
 -- the text as the next line and what is left behind it, and as the last line of a transmission and the closing
 module _ (told : ℕ) (tg : List ℕ) {h : Head} (order : reading Station tg ≡ sound h) where
-  next-line : (n : ℕ) (rest : Course) → Splits (rest_text told (onward tg n rest)) (head_line (told + 1) h) (rest_text (told + 1) rest)
+  next_line : (n : ℕ) (rest : Course) → Splits (rest_text told (onward tg n rest)) (head_line (told + 1) h) (rest_text (told + 1) rest)
   unfolding lines
-  next-line n rest =
+  next_line n rest =
       let more = lines (told + 1 + 1) rest.transmissions in
       record {
         is =
@@ -89,9 +89,9 @@ module _ {x : Report} {addresses tables : List ℕ} {told at : ℕ} {out : List 
     one_less : most_transmissions - told ≡ suc calls
     one_less = omega arith
 
-    pub told-end : {after : List ℕ} {e : Ending} → Ends addresses tables h body after e →
+    pub told_end : {after : List ℕ} {e : Ending} → Ends addresses tables h body after e →
         {v : Writing} → v ≡ writing w.at (closing (told + 1) e) w.output → v.at ≤ w.at + 19 → (ends_with v after ≡ x) × (v.at ≤ report_output)
-    told-end {after} {e} p = closed p.given e after p.set (from_here one_less (p.plays calls))
+    told_end {after} {e} p = closed p.given e after p.set (from_here one_less (p.plays calls))
 
     pub told_on : {after : List ℕ} {g : Head} {next : List ℕ} → Goes addresses tables h body after g next →
         ToldSoFar x addresses after (told + 1) w.at w.output g next
@@ -103,7 +103,7 @@ module _ {x : Report} {addresses tables : List ℕ} {told at : ℕ} {out : List 
           room = omega (arith, s.room);
           whole =
               ap (λ (t : Writing). ends_with t (tables_of rest.after))
-              (writing_call (next-line told tg s.way.order n rest) at out wrote refl)
+              (writing_call (next_line told tg s.way.order n rest) at out wrote refl)
               ∙ from_here one_less (p.plays calls);
         }
 
@@ -117,14 +117,14 @@ module _ (read : Header) (tg addresses tables : List ℕ) (order : reading Stati
   rest = take (length tg - n) (drop n tg)
 
   -- the whole text, since it has room
-  pub journey-told : {end : ℕ} {after output : List ℕ} (out : List ℕ) → report_output ≤ length out →
+  pub journey_told : {end : ℕ} {after output : List ℕ} (out : List ℕ) → report_output ≤ length out →
       (leaves (filled end) after output ≡ telling_from 0 0 out (net_of addresses tables) (head_of read slice) rest) × (end ≤ report_output) →
       leaves (filled end) after output ≡ tells_course (playing most_transmissions (net_of addresses tables) tg) out
   unfolding course_text
-  journey-told {end} out room (e, within) =
+  journey_told {end} out room (e, within) =
       let c = playing most_transmissions (net_of addresses tables) tg in
       let text = rest_text 0 c in
-      let same = rw (whole-telegram read tg order begins long) at e in
+      let same = rw (whole_telegram read tg order begins long) at e in
       let given : filled end ≡ filled (0 + length text) = ap (λ (r : Report). r.given) same in
       let long : end ≡ 0 + length text = cc in
       same ∙ tells_text text (tables_of c.after) out refl (omega (arith, long)) ∙ rw (zero-add (length c.transmissions))

@@ -8,7 +8,7 @@ use native.Mathlib.Numerals.{add-one}
 use native.Mathlib.Omega.{arith}
 use lib.ListN.{length, get_or, take, drop, set, take-append-drop}
 use lib.Seq.{sets, drop-cons, length-sets, length-take-le}
-use Rattle.base.proofs.Places.{sets-append}
+use Rattle.base.proofs.Places.{sets_append}
 
 module _ (bytes out : List ℕ) (at i : ℕ) {whole : List ℕ} where
   pub copy_step : i < length bytes → sets out (at + i) (drop i bytes) ≡ whole →
@@ -26,9 +26,9 @@ sets_beyond l i [] h = refl
 sets_beyond l i (v ∷ vs) h = rw (set_beyond l i v h) (sets_beyond l (suc i) vs (omega arith))
 
 -- so only as many are made as there are places
-pub sets-room : (l : List ℕ) (i n : ℕ) (vs : List ℕ) → i + n ≡ length l → n ≤ length vs → sets l i (take n vs) ≡ sets l i vs
-sets-room l i n vs e h =
+pub sets_room : (l : List ℕ) (i n : ℕ) (vs : List ℕ) → i + n ≡ length l → n ≤ length vs → sets l i (take n vs) ≡ sets l i vs
+sets_room l i n vs e h =
     let here : length (take n vs) ≡ n = length-take-le n vs h in
     let all : sets l i vs ≡ sets (sets l i (take n vs)) (i + length (take n vs)) (drop n vs) =
-    ap (sets l i) (sym (take-append-drop n vs)) ∙ sets-append l i (take n vs) (drop n vs) in
+    ap (sets l i) (sym (take-append-drop n vs)) ∙ sets_append l i (take n vs) (drop n vs) in
     sym (all ∙ sets_beyond (sets l i (take n vs)) (i + length (take n vs)) (drop n vs) (omega (arith, length-sets l i (take n vs))))

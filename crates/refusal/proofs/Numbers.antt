@@ -34,5 +34,5 @@ refusal_of_number ValueRange = refl
 refusal_of_number OutputShort = refl
 refusal_of_number TooLong = refl
 
-pub numbers-differ : NumbersDiffer
-numbers-differ a b e = sym (refusal_of_number a) ∙ ap refusal_of e ∙ refusal_of_number b
+pub numbers_differ : NumbersDiffer
+numbers_differ a b e = sym (refusal_of_number a) ∙ ap refusal_of e ∙ refusal_of_number b

@@ -31,9 +31,9 @@ use Rattle.mop_centre.specs.Reply.{judged_reply, receiving, route_places, read_o
 use Rattle.net_journey.specs.Net.{right_tables, good_net, is_there, all_there, up_to_missing, table_at, with_table}
 use Rattle.net_journey.specs.Journey.{Ending, at_nobody, refused_with, Course, named, addressee, handler}
 use Rattle.net_journey.specs.Bounded.{calling, playing, most_transmissions}
-use Rattle.net_journey.proofs.Whole.{every-journey, plays_the_journey}
+use Rattle.net_journey.proofs.Whole.{every_journey, plays_the_journey}
 use Rattle.net_exchange.specs.Exchange.{Exchange}
-use Rattle.net_exchange.proofs.Exchange.{every-exchange}
+use Rattle.net_exchange.proofs.Exchange.{every_exchange}
 use Rattle.net_hop.specs.Tables.{net_of, tables_of, tables_fit, set_up}
 use Rattle.net_journey.specs.Terms.{before_zero, last_telegram}
 use Rattle.net_dry_run.specs.DryRun.{run_output, played, leaves, padded, of_course, run_of, dry_run}
@@ -42,19 +42,19 @@ use Rattle.net_report.specs.Report.{tells_course, report_output, reporting, told
 use Rattle.net_report.specs.Report as report
 use Rattle.net_report.proofs.Journeys.{tells_the_journey}
 use Rattle.net_hop.proofs.Tables.{good_net_lem}
-use Rattle.net_dry_run.proofs.Outputs.{length-padded}
+use Rattle.net_dry_run.proofs.Outputs.{length_padded}
 use Rattle.net_dry_run.proofs.Journeys.{runs_the_journey}
 use Rattle.worked_cases.specs.Holding.{◌also◌, none}
 use Rattle.worked_cases.specs.Cases.{factory_tables, factory_net, Travels, Tells, Promised, answered, unanswered, Asked, WorkedCases}
-use Rattle.worked_cases.proofs.IsolationCases.{shows, at-destination, nobody_named, not_there, is-reply, alike_by, both_refused, unlike-at}
-use Rattle.worked_cases.proofs.GateCases.{gate-cases}
+use Rattle.worked_cases.proofs.IsolationCases.{shows, at_destination, nobody_named, not_there, is_reply, alike_by, both_refused, unlike_at}
+use Rattle.worked_cases.proofs.GateCases.{gate_cases_lem}
 
 -- all of an output that a dry run fills
 padded_alone : (tg : List ℕ) → length tg ≤ run_output → placed (padded tg) (replicate run_output 0) ≡ padded tg
 unfolding placed
 padded_alone tg h =
     ap (λ (l : List ℕ). padded tg ++ l)
-    (drop_of_length-le (replicate run_output 0) {i = length (padded tg)} (omega (arith, length-padded tg h, length-replicate {A = ℕ} run_output 0)))
+    (drop_of_length-le (replicate run_output 0) {i = length (padded tg)} (omega (arith, length_padded tg h, length-replicate {A = ℕ} run_output 0)))
     ∙ append-nil (padded tg)
 
 -- what is played over stations with factory values is the journey that a dry run plays and a report tells
@@ -65,13 +65,13 @@ module _ (addresses tg : List ℕ) (set : set_up addresses (factory_tables addre
   good : good_net (factory_net addresses) ≡ true
   good = good_net_lem addresses (factory_tables addresses) set
 
-  dry-course : (out : List ℕ) → run_output ≤ length out → dry_run tg addresses (factory_tables addresses) out ≡ of_course course out
-  dry-course out room =
+  dry_course : (out : List ℕ) → run_output ≤ length out → dry_run tg addresses (factory_tables addresses) out ≡ of_course course out
+  dry_course out room =
       let ran = runs_the_journey tg addresses (factory_tables addresses) out h set room well in
       ran.gives ∙ ap (λ (c : Course). of_course c out) (sym (ran.journey.only course (plays_the_journey (factory_net addresses) tg good)))
 
-  told-course : (out : List ℕ) → report_output ≤ length out → reporting tg addresses (factory_tables addresses) out ≡ tells_course course out
-  told-course out room =
+  told_course : (out : List ℕ) → report_output ≤ length out → reporting tg addresses (factory_tables addresses) out ≡ tells_course course out
+  told_course out room =
       let told = tells_the_journey tg addresses (factory_tables addresses) out h set room well in
       told.tells_it ∙ ap (λ (c : Course). tells_course c out) (sym (told.journey.only course (plays_the_journey (factory_net addresses) tg good)))
 
@@ -85,7 +85,7 @@ module _ (addresses tg : List ℕ) (set : set_up addresses (factory_tables addre
     ending = ending;
     tables = tables;
     dry =
-        dry-course (replicate 1024 0) (omega (arith, length-replicate {A = ℕ} 1024 0))
+        dry_course (replicate 1024 0) (omega (arith, length-replicate {A = ℕ} 1024 0))
         ∙ (λ i. leaves (played (length (all i)) (ending i) (length (last_telegram (all i)))) (tables i)
         (placed (padded (last_telegram (all i))) (replicate 1024 0)))
         ∙ ap (leaves (played (length transmissions) e (length (last_telegram transmissions))) after) (padded_alone (last_telegram transmissions) (leb-true (length (last_telegram transmissions)) run_output short));
@@ -95,7 +95,7 @@ module _ (addresses tg : List ℕ) (set : set_up addresses (factory_tables addre
   tells_by text e = record {
     tables = tables_of course.after;
     told =
-        told-course (replicate report_output 0) (omega (arith, length-replicate {A = ℕ} report_output 0))
+        told_course (replicate report_output 0) (omega (arith, length-replicate {A = ℕ} report_output 0))
         ∙ ap (λ (l : List ℕ). report.tells l (tables_of course.after) (replicate report_output 0)) e;
   }
 
@@ -109,19 +109,19 @@ promised_by : (addresses tg : List ℕ) (h : Head) → good_net (factory_net add
     (first h.block ≡ 0 → ⊥) → get_or h.block (length h.block - 1) 0 ≡ 0 → all_there (stations h.block) (factory_net addresses) ≡ true →
     judged_body (body_of h tg) ≡ accepts → Promised addresses tg
 promised_by addresses tg h net order request named last there verdict =
-    let t = every-journey (factory_net addresses) tg net in
+    let t = every_journey (factory_net addresses) tg net in
     record {
       head = h;
       order = order;
       journey = t;
-      accomplished = t.demand3.accomplished h order (record { request = request; first-named = named; last_zero = last }) there verdict;
+      accomplished = t.demand3.accomplished h order (record { request = request; first_named = named; last_zero = last }) there verdict;
     }
 
 -- what the exchange promises of a request of the centre
 module _ (addresses route : List ℕ) (rStart rCount wStart : ℕ) (values : List ℕ) (n : ℕ) (net : good_net (factory_net addresses) ≡ true)
     (written : (requesting route rStart rCount wStart values (replicate 1024 0)).given ≡ filled n) where
   exchanged : Exchange (factory_net addresses) route rStart rCount wStart values (take n (requesting route rStart rCount wStart values (replicate 1024 0)).output)
-  exchanged = every-exchange (factory_net addresses) route rStart rCount wStart values (replicate 1024 0) n net written
+  exchanged = every_exchange (factory_net addresses) route rStart rCount wStart values (replicate 1024 0) n net written
 
   answered_by : all_there route (factory_net addresses) ≡ true → judged_runs rStart rCount wStart (length values) values ≡ accepts →
       Asked addresses route rStart rCount wStart values n answered
@@ -164,14 +164,14 @@ worked_cases =
     also refl
     also refl also refl also refl also refl also refl also refl also refl also refl
     also refl also refl also refl also refl also refl also refl also refl
-    also (alike_by _ _ _ _ refl _ refl (at-destination refl) (shows refl refl)
-    also unlike-at _ _ _ _ _ _ _ _ 10 refl (shows refl refl) (shows refl refl) refl
-    also alike_by _ _ _ _ refl _ refl (is-reply refl) (shows refl refl)
+    also (alike_by _ _ _ _ refl _ refl (at_destination refl) (shows refl refl)
+    also unlike_at _ _ _ _ _ _ _ _ 10 refl (shows refl refl) (shows refl refl) refl
+    also alike_by _ _ _ _ refl _ refl (is_reply refl) (shows refl refl)
     also alike_by _ _ _ _ refl _ refl (not_there refl) (shows refl refl)
-    also alike_by _ _ _ _ refl _ refl (at-destination refl) (shows refl refl)
-    also alike_by _ _ _ _ refl _ refl (at-destination refl) (shows refl refl)
+    also alike_by _ _ _ _ refl _ refl (at_destination refl) (shows refl refl)
+    also alike_by _ _ _ _ refl _ refl (at_destination refl) (shows refl refl)
     also alike_by _ _ _ _ refl _ refl (nobody_named refl) (shows refl refl)
     also both_refused _ _ _ _ 5 refl refl refl
     also none)
-    also gate-cases
+    also gate_cases_lem
     also none

@@ -15,9 +15,9 @@ use Rattle.gate_laws.specs.Feeding.{feed}
 use Rattle.worked_cases.specs.Holding.{AllHold, ◌also◌, none}
 use Rattle.worked_cases.specs.GateCases.{GateHolds, gate_cases}
 
-pub gate-cases : AllHold GateHolds gate_cases
+pub gate_cases_lem : AllHold GateHolds gate_cases
 unfolding placed fitted bytes_of run_over ccitt_bit ccitt_byte ccitt_over bits_of signed_of four_bytes of_four slave_token checked check_of telegram_of bad_addresses telegram_writing rest_of destination_of source_of length_of data_of accepted_of judged_of others_length_of dropping_of byte_of event_of overcounts receive_of function_of carried_out functioning commanding operating is_position answer_bytes is_answer answer_writing position_at kind_reading answer_reading feed
-gate-cases =
+gate_cases_lem =
     refl also refl also refl also refl also refl also refl also refl also refl
     also refl also refl also refl also refl also refl also refl also refl also refl
     also refl also refl also refl also refl also refl also refl also refl also refl

@@ -31,10 +31,10 @@ played_so s = subst IsPlayed (sym s.outcome) tt
 
 -- why two runs are the same: by the table of the destination, or since nobody is named, the destination is missing, or it is a reply
 pub data Why (tg addresses tables other : List ℕ) (h : Head) : Type 0 where
-  at-destination : (let a = before_zeros h.block in table_at a (net_of addresses tables) ≡ table_at a (net_of addresses other)) → Why tg addresses tables other h
+  at_destination : (let a = before_zeros h.block in table_at a (net_of addresses tables) ≡ table_at a (net_of addresses other)) → Why tg addresses tables other h
   nobody_named : m h ≡ 0 → Why tg addresses tables other h
   not_there : has (before_zeros h.block) addresses ≡ false → Why tg addresses tables other h
-  is-reply : h.function ≡ Reply → Why tg addresses tables other h
+  is_reply : h.function ≡ Reply → Why tg addresses tables other h
 
 module _ (tg addresses tables other : List ℕ) where
   -- two outputs of 1,024 places
@@ -43,7 +43,7 @@ module _ (tg addresses tables other : List ℕ) where
 
   module _ (e : length tables ≡ length other) (h : Head) (order : reading Station tg ≡ sound h) where
     same_by : Why tg addresses tables other h → SameRun (in_one tg addresses tables) (in_other tg addresses other)
-    same_by (at-destination table) =
+    same_by (at_destination table) =
         isolated tg addresses tables other _ _ (record {
           lengths = lengths e;
           destination = λ p.
@@ -51,7 +51,7 @@ module _ (tg addresses tables other : List ℕ) where
         })
     same_by (nobody_named none) = nobody_isolated tg addresses h order none tables other _ _ (lengths e)
     same_by (not_there none) = missing_isolated tg addresses h order none tables other _ _ (lengths e)
-    same_by (is-reply reply) = replies_isolated tg addresses h order reply tables other _ _ (lengths e)
+    same_by (is_reply reply) = replies_isolated tg addresses h order reply tables other _ _ (lengths e)
 
     -- what the one run shows, computed, the other shows by the law
     pub alike_by : {count : ℕ} {ending : Ending} {last : List ℕ} → Why tg addresses tables other h → Shows (in_one tg addresses tables) count ending last →
@@ -70,9 +70,9 @@ module _ (tg addresses tables other : List ℕ) where
 
   module _ (count : ℕ) (e : Ending) (last otherLast : List ℕ) where
     -- the last telegrams differ at a place
-    pub unlike-at : (i : ℕ) → length tables ≡ length other → Shows (in_one tg addresses tables) count e last → Shows (in_other tg addresses other) count e otherLast →
+    pub unlike_at : (i : ℕ) → length tables ≡ length other → Shows (in_one tg addresses tables) count e last → Shows (in_other tg addresses other) count e otherLast →
         eqb (get_or (padded last) i 0) (get_or (padded otherLast) i 0) ≡ false → Unlike tg addresses tables other count e last otherLast
-    unlike-at i long one two apart =
+    unlike_at i long one two apart =
         let differ : SameRun (in_one tg addresses tables) (in_other tg addresses other) → ⊥ = λ same.
         eqb-false (get_or (padded last) i 0) (get_or (padded otherLast) i 0) apart
         (ap (λ (l : List ℕ). get_or l i 0) (sym one.filled ∙ (same.filled (played_so one)).same ∙ two.filled)) in

@@ -4,7 +4,7 @@ use mathlib.Core.Path.{refl}
 use mathlib.Core.Bool.{false}
 use native.Mathlib.Omega.{arith}
 use Rattle.c_gate.specs.Commands.{bits_at}
-use Rattle.c_gate.proofs.Fronts.{front_grows, front-whole}
+use Rattle.c_gate.proofs.Fronts.{front_grows, front_whole}
 use Rattle.c_gate.proofs.Bits.{length_bits, bit_at}
 use borrow.Author.Rules.{rules}
 use Rattle.c_gate.proofs.bits_at.Goals as goal
@@ -24,4 +24,4 @@ returns c =
     let l = c.loop-i in
     let words = c.args.words.now in
     let long = length_bits words in
-    front-whole l.bits (bits_at words) l.i (omega arith) (omega arith) l.invariant.2
+    front_whole l.bits (bits_at words) l.i (omega arith) (omega arith) l.invariant.2

@@ -4,7 +4,7 @@ use mathlib.Core.Path.{ap, sym, ◌∙◌}
 use mir.Facts.{to_z-of_z}
 use mir.Syntax.{w32}
 use Rattle.gate_answers.specs.Answers.{reading_of}
-use Rattle.c_gate.proofs.Answers.{no_place, tells, tells-refusal}
+use Rattle.c_gate.proofs.Answers.{no_place, tells, tells_refusal}
 use Rattle.c_gate.proofs.hanraquin_gate_read_answer.Goals as goal
 
 pub returns-then-number-ne1 : goal.returns-then-number-ne1
@@ -21,4 +21,4 @@ pub returns-in-Refused : goal.returns-in-Refused
 returns-in-Refused c =
     let read = c in
     let told = ap reading_of (sym c.in-Refused.is) in
-    tells-refusal _ _ read.if-number-ne1.false (told ∙ read.read_answer.ensures) c.refused-in-Refused.ensures
+    tells_refusal _ _ read.if-number-ne1.false (told ∙ read.read_answer.ensures) c.refused-in-Refused.ensures

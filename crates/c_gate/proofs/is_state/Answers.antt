@@ -3,7 +3,7 @@
 use mathlib.Core.Bool.{true}
 use mathlib.Core.Path.{◌≡◌, sym, ◌∙◌}
 use Rattle.c_gate.specs.Bus.{fits}
-use Rattle.c_gate.proofs.States.{fits-parts, not_fitting, state_compared}
+use Rattle.c_gate.proofs.States.{fits_parts, not_fitting, state_compared}
 use Rattle.c_gate.proofs.is_state.Goals as goal
 use Rattle.c_gate.proofs.is_state.Goals.{Else-not-is_fitting}
 
@@ -20,7 +20,7 @@ pub state_at-requires : goal.state_at-requires
 state_at-requires c = fitting c
 
 pub is_same-requires : goal.is_same-requires
-is_same-requires c = (fits-parts _ (fitting (goal.at.is_same-requires c).Else-not-is_fitting)).seven
+is_same-requires c = (fits_parts _ (fitting (goal.at.is_same-requires c).Else-not-is_fitting)).seven
 
 pub returns : goal.returns
 returns c =

@@ -3,7 +3,7 @@
 use mathlib.Core.Path.{◌≡◌, refl, ◌∙◌}
 use native.Mathlib.Omega.{arith}
 use lib.ListN.{length}
-use Rattle.c_gate.proofs.Fronts.{front_grows, front-whole}
+use Rattle.c_gate.proofs.Fronts.{front_grows, front_whole}
 use borrow.Author.Rules.{rules}
 use Rattle.c_gate.proofs.put_state.Goals as goal
 
@@ -22,4 +22,4 @@ returns c =
     let l = c.loop-i in
     let w = c.words_of-new in
     let seven : length w.result ≡ 7 = search rules in
-    front-whole l.words w.result l.i (omega arith) (omega arith) l.invariant.2 ∙ w.ensures
+    front_whole l.words w.result l.i (omega arith) (omega arith) l.invariant.2 ∙ w.ensures

@@ -3,19 +3,19 @@
 use mathlib.Core.Bool.{true}
 use mathlib.Core.Path.{◌≡◌, ap}
 use Rattle.c_gate.specs.Bus.{fits, received_by}
-use Rattle.c_gate.proofs.States.{fits-parts, state-parts}
+use Rattle.c_gate.proofs.States.{fits_parts, state_parts}
 use Rattle.c_gate.proofs.receive_at.Goals as goal
 use Rattle.c_gate.proofs.receive_at.Goals.{Start}
 
 -- what `receive_at` requires
 fitting : (s : Start) → fits s.args.words.now ≡ true
-fitting s = (state-parts _ s.requires).0
+fitting s = (state_parts _ s.requires).0
 
 pub state_at-before-requires : goal.state_at-before-requires
 state_at-before-requires c = fitting (goal.at.state_at-before-requires c).Start
 
 pub put_state-requires : goal.put_state-requires
-put_state-requires c = (fits-parts _ (fitting (goal.at.put_state-requires c).Start)).seven
+put_state-requires c = (fits_parts _ (fitting (goal.at.put_state-requires c).Start)).seven
 
 pub returns : goal.returns
 returns c =

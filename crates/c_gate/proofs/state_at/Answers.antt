@@ -6,13 +6,13 @@ use Prim.Native.Nat.{ℕ, ◌<◌}
 use lib.Dec.{ltb}
 use lib.ListN.{length}
 use Rattle.c_gate.specs.Bus.{state_at}
-use Rattle.c_gate.proofs.States.{Fitting, fits-parts, seven_places, byte_fits, word_fits}
+use Rattle.c_gate.proofs.States.{Fitting, fits_parts, seven_places, byte_fits, word_fits}
 use Rattle.c_gate.proofs.state_at.Goals as goal
 use Rattle.c_gate.proofs.state_at.Goals.{Start}
 
 -- what `state_at` requires
 fitting : (s : Start) → Fitting s.args.words.now
-fitting s = fits-parts _ s.requires
+fitting s = fits_parts _ s.requires
 
 place : (s : Start) (k : ℕ) → ltb k 7 ≡ true → k < length s.args.words.now
 place s k h = seven_places s.args.words.now k (fitting s).seven h

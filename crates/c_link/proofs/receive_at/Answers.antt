@@ -5,25 +5,25 @@ use mathlib.Core.Path.{sym, ap, subst}
 use Rattle.c_link.specs.Link.{received_by}
 use Rattle.c_link.specs.Private.Small.{SmallResponse}
 use Rattle.link_receive.specs.Receive.{Outcome}
-use Rattle.c_link.proofs.States.{state-parts}
+use Rattle.c_link.proofs.States.{state_parts}
 use Rattle.c_link.proofs.Messages.{response_small}
 use borrow.Author.Rules.{rules}
 use Rattle.c_link.proofs.receive_at.Goals as goal
 
 pub bounds-words-1 : goal.bounds-words-1
-bounds-words-1 c = omega (arith, (state-parts _ c.requires).three)
+bounds-words-1 c = omega (arith, (state_parts _ c.requires).three)
 
 pub bounds-words-2 : goal.bounds-words-2
-bounds-words-2 c = omega (arith, (state-parts _ c.requires).three)
+bounds-words-2 c = omega (arith, (state_parts _ c.requires).three)
 
 pub overflow_cast-before : goal.overflow_cast-before
-overflow_cast-before c = search (rules, (state-parts _ c.requires).check)
+overflow_cast-before c = search (rules, (state_parts _ c.requires).check)
 
 pub bounds-words-0 : goal.bounds-words-0
-bounds-words-0 c = omega (arith, (state-parts _ c.requires).three)
+bounds-words-0 c = omega (arith, (state_parts _ c.requires).three)
 
 pub put_state-requires : goal.put_state-requires
-put_state-requires c = (state-parts _ c.requires).three
+put_state-requires c = (state_parts _ c.requires).three
 
 pub of_response-requires : goal.of_response-requires
 of_response-requires c = subst (λ (o : Outcome). SmallResponse o.reaction.response) (sym c.receive-step.ensures) (response_small _ _ _)

@@ -1,7 +1,7 @@
 -- `is_half`: each return is a test.
 -- Assumes nothing.
 use mathlib.Core.Path.{sym}
-use Rattle.c_link_send.proofs.States.{half_phase, half_check, junk_phase, junk_count, no-half}
+use Rattle.c_link_send.proofs.States.{half_phase, half_check, junk_phase, junk_count, no_half}
 use Rattle.c_link_send.proofs.is_half.Goals as goal
 
 pub returns-then-phase-gt3 : goal.returns-then-phase-gt3
@@ -17,4 +17,4 @@ pub returns-then-count-ne0 : goal.returns-then-count-ne0
 returns-then-count-ne0 c = sym (junk_count _ _ _ _ c.if-sending-eq-RECEIVING.false c.if-phase-ne0.false c.if-count-ne0.true)
 
 pub returns : goal.returns
-returns c = sym (no-half _ _ _ _ c.if-sending-eq-RECEIVING.false c.if-phase-ne0.false c.if-count-ne0.false)
+returns c = sym (no_half _ _ _ _ c.if-sending-eq-RECEIVING.false c.if-phase-ne0.false c.if-count-ne0.false)

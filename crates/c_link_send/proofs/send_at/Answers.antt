@@ -4,12 +4,12 @@ use mathlib.Core.Path.{sym, ap, subst}
 use Rattle.link_send.specs.Send.{SendOutcome}
 use Rattle.c_link_send.specs.Send.{at_sender_by}
 use Rattle.c_link_send.specs.Private.Small.{SmallResponse}
-use Rattle.c_link_send.proofs.States.{sender-parts}
+use Rattle.c_link_send.proofs.States.{sender_parts}
 use Rattle.c_link_send.proofs.Endings.{send_small}
 use Rattle.c_link_send.proofs.send_at.Goals as goal
 
 pub put_sender-requires : goal.put_sender-requires
-put_sender-requires c = (sender-parts _ c.requires).nine_long
+put_sender-requires c = (sender_parts _ c.requires).nine_long
 
 pub of_answer-requires : goal.of_answer-requires
 of_answer-requires c =

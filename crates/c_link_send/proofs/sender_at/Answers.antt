@@ -5,7 +5,7 @@ use mathlib.Core.Bool.{true}
 use Prim.Native.Nat.{ℕ, ◌<◌}
 use lib.Dec.{ltb}
 use lib.ListN.{length}
-use Rattle.c_link_send.proofs.States.{nine_places, check_byte_lem, sender-read}
+use Rattle.c_link_send.proofs.States.{nine_places, check_byte_lem, sender_read}
 use borrow.Author.Rules.{rules}
 use Rattle.c_link_send.proofs.sender_at.Goals as goal
 use Rattle.c_link_send.proofs.sender_at.Goals.{Start}
@@ -48,4 +48,4 @@ pub returns : goal.returns
 returns c =
     let q = c in
     let h = q in
-    sender-read _ h.requires h.phase_at.ensures q.priority_at.ensures c.send_phase_at.ensures
+    sender_read _ h.requires h.phase_at.ensures q.priority_at.ensures c.send_phase_at.ensures

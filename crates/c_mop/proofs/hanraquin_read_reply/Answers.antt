@@ -1,7 +1,7 @@
 -- `hanraquin_read_reply`: the tests of the places, and then the reading.
 -- Assumes nothing.
 use mathlib.Core.Path.{sym, ◌∙◌}
-use Rattle.c_mop.proofs.Replies.{are_places, bad_route, bad_run, with-places}
+use Rattle.c_mop.proofs.Replies.{are_places, bad_route, bad_run, with_places}
 use Rattle.c_mop.proofs.hanraquin_read_reply.Goals as goal
 
 pub returns-then-route-ne-MAX_ROUTE : goal.returns-then-route-ne-MAX_ROUTE
@@ -17,4 +17,4 @@ tell_reply-requires c =
 pub returns : goal.returns
 returns c =
     let e = c in
-    c.tell_reply.ensures ∙ sym (with-places _ _ _ (are_places _ _ e.if-route-ne-MAX_ROUTE.false e.if-run-ne3.false))
+    c.tell_reply.ensures ∙ sym (with_places _ _ _ (are_places _ _ e.if-route-ne-MAX_ROUTE.false e.if-run-ne3.false))

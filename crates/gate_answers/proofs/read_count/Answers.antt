@@ -8,7 +8,7 @@ use mir.Facts.{to_z-of_z}
 use Rattle.signed.specs.Signed.{top32, signed_of, of_four}
 use Rattle.gate_answers.specs.Answers.{reads}
 use Rattle.gate_answers.specs.declared.BarrierAnswer.TheVariants.{Count}
-use Rattle.gate_answers.proofs.Reading.{sized_other, count-read}
+use Rattle.gate_answers.proofs.Reading.{sized_other, count_read}
 use Rattle.gate_answers.proofs.read_count.Goals as goal
 
 pub returns-then-src-ne5 : goal.returns-then-src-ne5
@@ -20,5 +20,5 @@ pub returns : goal.returns
 returns c =
     let test = c in
     let z = c.signed32 in
-    count-read test.args.src.now (omega arith) c.of_four-n.ensures
+    count_read test.args.src.now (omega arith) c.of_four-n.ensures
     (to_z-of_z {w = w32} {z = z.result} (record { sfits = z.type_inv }) ∙ z.ensures)

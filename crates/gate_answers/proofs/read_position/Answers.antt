@@ -8,7 +8,7 @@ use mir.Facts.{to_z-of_z}
 use Rattle.signed.specs.Signed.{top8, signed_of}
 use Rattle.gate_answers.specs.Answers.{is_position, position_at}
 use Rattle.gate_answers.proofs.Positions.{widens, widened}
-use Rattle.gate_answers.proofs.Reading.{sized_other, position-read, position-refused}
+use Rattle.gate_answers.proofs.Reading.{sized_other, position_read, position_refused}
 use Rattle.gate_answers.proofs.read_position.Goals as goal
 use Rattle.gate_answers.proofs.read_position.Goals.{After-is_position, After-signed8-z}
 
@@ -32,12 +32,12 @@ pub returns-then-not-is_position : goal.returns-then-not-is_position
 returns-then-not-is_position c =
     let test = c in
     let p = c in
-    position-refused test.args.src.now test.if-src-ne2.false (held (goal.at.returns-then-not-is_position p).After-signed8-z)
+    position_refused test.args.src.now test.if-src-ne2.false (held (goal.at.returns-then-not-is_position p).After-signed8-z)
     (tested (goal.at.returns-then-not-is_position p).After-is_position ∙ c.if-not-is_position.true)
 
 pub returns : goal.returns
 returns c =
     let test = c in
     let p = c in
-    position-read test.args.src.now test.if-src-ne2.false (held (goal.at.returns p).After-signed8-z)
+    position_read test.args.src.now test.if-src-ne2.false (held (goal.at.returns p).After-signed8-z)
     (tested (goal.at.returns p).After-is_position ∙ c.if-not-is_position.false)

@@ -7,7 +7,7 @@ use mir.Facts.{to_z-of_z}
 use Rattle.signed.specs.Signed.{top8, bits_of}
 use Rattle.gate_answers.specs.Answers.{is_position}
 use Rattle.gate_answers.proofs.Positions.{widens, widened}
-use Rattle.gate_answers.proofs.Writing.{position-none, position-short, position-room}
+use Rattle.gate_answers.proofs.Writing.{position_none, position_short, position_room}
 use Rattle.gate_answers.proofs.write_position.Goals as goal
 use Rattle.gate_answers.proofs.write_position.Goals.{After-is_position}
 
@@ -26,16 +26,16 @@ overflow_cast-z c = widens _ c.ranges.z
 pub returns-then-not-is_position : goal.returns-then-not-is_position
 returns-then-not-is_position c =
     let a = c.args in
-    sym (position-none a.z a.out.now (tested (goal.at.returns-then-not-is_position c).After-is_position ∙ c.if-not-is_position.true))
+    sym (position_none a.z a.out.now (tested (goal.at.returns-then-not-is_position c).After-is_position ∙ c.if-not-is_position.true))
 
 pub returns-then-out-lt2 : goal.returns-then-out-lt2
 returns-then-out-lt2 c =
     let a = c.args in
-    sym (position-short a.z a.out.now (good (goal.at.returns-then-out-lt2 c).After-is_position c.if-not-is_position.false) (omega arith))
+    sym (position_short a.z a.out.now (good (goal.at.returns-then-out-lt2 c).After-is_position c.if-not-is_position.false) (omega arith))
 
 pub returns : goal.returns
 returns c =
     let test = c in
     let s = test in
-    position-room s.args.z s.args.out.now (good (goal.at.returns test).After-is_position c.if-not-is_position.false)
+    position_room s.args.z s.args.out.now (good (goal.at.returns test).After-is_position c.if-not-is_position.false)
     (c.unsigned8.ensures ∙ ap (bits_of top8) (to_z-of_z s.ranges.z)) (omega arith)

@@ -1,14 +1,14 @@
 -- `accept`: a token, an output too short, or the data in the output.
 -- Assumes nothing.
 use mathlib.Core.Path.{sym}
-use Rattle.gate_receive.proofs.Rows.{accepted-token, accepted-short, accepted_data, data_put}
+use Rattle.gate_receive.proofs.Rows.{accepted_token, accepted_short, accepted_data, data_put}
 use Rattle.gate_receive.proofs.accept.Goals as goal
 
 pub returns-then-n-eq0 : goal.returns-then-n-eq0
-returns-then-n-eq0 c = rw c.start_again.ensures (sym (accepted-token _ _ _ _ c.if-n-eq0.true))
+returns-then-n-eq0 c = rw c.start_again.ensures (sym (accepted_token _ _ _ _ c.if-n-eq0.true))
 
 pub returns-then-out-n : goal.returns-then-out-n
-returns-then-out-n c = rw c.start_again-then-out-n.ensures (sym (accepted-short _ _ _ _ c.if-n-eq0.false c.if-out-n.true))
+returns-then-out-n c = rw c.start_again-then-out-n.ensures (sym (accepted_short _ _ _ _ c.if-n-eq0.false c.if-out-n.true))
 
 pub returns : goal.returns
 returns c =

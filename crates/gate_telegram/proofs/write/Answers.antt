@@ -5,8 +5,8 @@ use mathlib.Core.Bool.{false}
 use native.Mathlib.Omega.{arith}
 use lib.ListN.{length}
 use Rattle.gate_telegram.specs.Telegram.{bad_addresses}
-use Rattle.gate_telegram.proofs.Addresses.{bad_destination, bad_source, addresses-token}
-use Rattle.gate_telegram.proofs.Cases.{writing_bad, writing-long, writing-short, writing-room}
+use Rattle.gate_telegram.proofs.Addresses.{bad_destination, bad_source, addresses_token}
+use Rattle.gate_telegram.proofs.Cases.{writing_bad, writing_long, writing_short, writing_room}
 use Rattle.gate_telegram.proofs.write.Goals as goal
 use Rattle.gate_telegram.proofs.write.Goals.{Else-is_slave_token}
 
@@ -15,7 +15,7 @@ good : (c : Else-is_slave_token) → bad_addresses c.args.destination c.args.sou
 good c =
     let test = c in
     let a = test.args in
-    addresses-token a.destination a.source (length a.src.now) test.if-destination-eq-RESERVED.false test.if-source-eq-RESERVED.false
+    addresses_token a.destination a.source (length a.src.now) test.if-destination-eq-RESERVED.false test.if-source-eq-RESERVED.false
     ∙ sym c.is_slave_token.ensures ∙ c.if-is_slave_token.false
 
 pub returns-then-destination-eq-RESERVED : goal.returns-then-destination-eq-RESERVED
@@ -36,23 +36,23 @@ returns-then-is_slave_token c =
     let a = test.args in
     sym
     (writing_bad a.destination a.source a.src.now a.out.now
-    (addresses-token a.destination a.source (length a.src.now) test.if-destination-eq-RESERVED.false test.if-source-eq-RESERVED.false
+    (addresses_token a.destination a.source (length a.src.now) test.if-destination-eq-RESERVED.false test.if-source-eq-RESERVED.false
     ∙ sym c.is_slave_token.ensures ∙ c.if-is_slave_token.true))
 
 pub returns-then-n-gt-MAX_DATA : goal.returns-then-n-gt-MAX_DATA
 returns-then-n-gt-MAX_DATA c =
     let a = c.args in
-    sym (writing-long a.destination a.source a.src.now a.out.now (good (goal.at.returns-then-n-gt-MAX_DATA c).Else-is_slave_token) (omega arith))
+    sym (writing_long a.destination a.source a.src.now a.out.now (good (goal.at.returns-then-n-gt-MAX_DATA c).Else-is_slave_token) (omega arith))
 
 pub returns-then-out-n : goal.returns-then-out-n
 returns-then-out-n c =
     let test = c in
     let a = test.args in
-    sym (writing-short a.destination a.source a.src.now a.out.now (good (goal.at.returns-then-out-n test).Else-is_slave_token) (omega arith) (omega arith))
+    sym (writing_short a.destination a.source a.src.now a.out.now (good (goal.at.returns-then-out-n test).Else-is_slave_token) (omega arith) (omega arith))
 
 pub returns : goal.returns
 returns c =
     let test = c in
     let a = test.args in
     c.write_telegram.ensures
-    ∙ sym (writing-room a.destination a.source a.src.now a.out.now (good (goal.at.returns test).Else-is_slave_token) (omega arith) (omega arith))
+    ∙ sym (writing_room a.destination a.source a.src.now a.out.now (good (goal.at.returns test).Else-is_slave_token) (omega arith) (omega arith))

@@ -4,7 +4,7 @@ use mathlib.Core.Path.{refl, ap}
 use native.Mathlib.Numerals.{add-one}
 use native.Mathlib.Omega.{arith}
 use lib.ListN.{length, length-set}
-use Rattle.base.proofs.Writing.{writing_step, writing-end, same_place}
+use Rattle.base.proofs.Writing.{writing_step, writing_end, same_place}
 use Rattle.link_frame.proofs.Doubling.{Twice, Once, none_left, next_dle, next_other}
 use Rattle.link_frame.proofs.write_doubling.Goals as goal
 use Rattle.link_frame.proofs.write_doubling.Goals.{Else-b-eq-DLE, Then-b-eq-DLE}
@@ -62,4 +62,4 @@ pub returns : goal.returns
 returns c =
     let v = c.loop-i in
     let none = none_left c.args.part.now v.i c.loop-i-test.false in
-    writing-end none v.at v.out v.invariant.2
+    writing_end none v.at v.out v.invariant.2

@@ -3,7 +3,7 @@
 use native.Mathlib.Omega.{arith}
 use lib.ListN.{length-set}
 use Rattle.base.proofs.Writing.{same_place}
-use Rattle.link_frame.proofs.Framing.{frame-written}
+use Rattle.link_frame.proofs.Framing.{frame_written}
 use Rattle.link_frame.proofs.write_frame.Goals as goal
 
 pub bounds-out-at : goal.bounds-out-at
@@ -31,4 +31,4 @@ pub returns : goal.returns
 returns c =
     let a = c.args in
     let p = c.write_doubled-at in
-    rw c.check_byte.ensures (frame-written a.src.now a.out.now p.ensures (omega arith))
+    rw c.check_byte.ensures (frame_written a.src.now a.out.now p.ensures (omega arith))

@@ -18,7 +18,7 @@ pub take_event-planned-requires : goal.take_event-planned-requires
 take_event-planned-requires c =
     let test = c in
     let good = sound _ _ (sym test.is_misset.ensures ∙ test.if-is_misset.false) in
-    (omega (arith, good.connections.1, good.failed-connections), omega (arith, good.blocks.1, good.failed-blocks))
+    (omega (arith, good.connections.1, good.failed_connections), omega (arith, good.blocks.1, good.failed_blocks))
 
 pub returns : goal.returns
 returns c =

@@ -5,14 +5,14 @@ use mathlib.Core.Path.{sym, ◌∙◌}
 use mathlib.Core.List.{append-nil}
 use native.Mathlib.Omega.{arith}
 use Rattle.base.specs.Places.{placed}
-use Rattle.base.proofs.Filling.{fitted-room}
+use Rattle.base.proofs.Filling.{fitted_room}
 use Rattle.link_frame.specs.Frame.{framing}
 use Rattle.link_send.specs.Send.{bytes_of, part_bytes}
 use Rattle.link_send.proofs.write.Goals as goal
 
 pub returns-in-Nothing : goal.returns-in-Nothing
 unfolding bytes_of placed
-returns-in-Nothing c = rw c.in-Nothing.is (sym (fitted-room _ _ (omega arith)))
+returns-in-Nothing c = rw c.in-Nothing.is (sym (fitted_room _ _ (omega arith)))
 
 pub returns-in-Opening : goal.returns-in-Opening
 unfolding bytes_of part_bytes

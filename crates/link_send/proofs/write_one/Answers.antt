@@ -1,11 +1,11 @@
 -- `write_one`: without room, and with it.
 -- Assumes nothing.
 use mathlib.Core.Path.{sym}
-use Rattle.base.proofs.Filling.{fitted_short, fitted-stored}
+use Rattle.base.proofs.Filling.{fitted_short, fitted_stored}
 use Rattle.link_send.proofs.write_one.Goals as goal
 
 pub returns-then-out-lt1 : goal.returns-then-out-lt1
 returns-then-out-lt1 c = sym (fitted_short _ _ c.if-out-lt1.true)
 
 pub returns : goal.returns
-returns c = fitted-stored _ _ c.if-out-lt1.false
+returns c = fitted_stored _ _ c.if-out-lt1.false

@@ -1,7 +1,7 @@
 -- `names_somebody`: the entries passed are no stations. What is left falls.
 -- Assumes nothing.
 use mathlib.Core.Path.{sym, ◌∙◌}
-use Rattle.mop_block.proofs.Scan.{somebody, zero_next, stations-end}
+use Rattle.mop_block.proofs.Scan.{somebody, zero_next, stations_end}
 use Rattle.mop_block.proofs.names_somebody.Goals as goal
 
 pub returns-then-a-ne0 : goal.returns-then-a-ne0
@@ -19,4 +19,4 @@ loop-i-preserved c =
 pub returns : goal.returns
 returns c =
     let a = c in
-    rw (← a.loop-i.invariant, stations-end a.args.b.now a.loop-i.i c.loop-i-test.false)
+    rw (← a.loop-i.invariant, stations_end a.args.b.now a.loop-i.i c.loop-i-test.false)

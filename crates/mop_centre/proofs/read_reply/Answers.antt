@@ -4,7 +4,7 @@ use mathlib.Core.Path.{sym, ◌∙◌, ap}
 use Rattle.mop_reader.specs.Reading.{reading_of}
 use Rattle.mop_reader.specs.declared.HeaderRead.{HeaderRead}
 use Rattle.mop_centre.specs.Reply.{ReplyReading, receiving}
-use Rattle.mop_centre.proofs.Replies.{receipt_by, refused-read}
+use Rattle.mop_centre.proofs.Replies.{receipt_by, refused_read}
 use Rattle.mop_centre.proofs.read_reply.Goals as goal
 
 pub receive-requires : goal.receive-requires
@@ -17,4 +17,4 @@ unfolding receiving
 returns-in-Fault c =
     let tg = c.args.telegram.now in
     let read = sym c.read.ensures ∙ ap (λ (r : HeaderRead). reading_of r tg) c.in-Fault.is in
-    c.unread.ensures ∙ sym (ap (λ (r : ReplyReading). r.answer) (refused-read tg (receipt_by tg (sym read))))
+    c.unread.ensures ∙ sym (ap (λ (r : ReplyReading). r.answer) (refused_read tg (receipt_by tg (sym read))))

@@ -4,7 +4,7 @@ use mathlib.Core.Path.{refl, ap}
 use native.Mathlib.Omega.{arith}
 use lib.ListN.{length}
 use Rattle.mop_centre.specs.Reply.{receipt_of, unread}
-use Rattle.mop_centre.proofs.Replies.{receipt-told, stretch_room, stretch_bytes, stretch_place, not_mine_read, refused-read, no_bytes}
+use Rattle.mop_centre.proofs.Replies.{receipt_told, stretch_room, stretch_bytes, stretch_place, not_mine_read, refused_read, no_bytes}
 use Rattle.mop_centre.proofs.read_reply_values.Goals as goal
 
 pub slice_bounds-result-count : goal.slice_bounds-result-count
@@ -27,11 +27,11 @@ unfolding unread
 returns-in-NotMine c =
     let tg = c.args.telegram.now in
     let reply = c.read_reply-reply in
-    rw (not_mine_read tg (receipt-told tg reply.ensures (ap receipt_of c.in-NotMine.is))) record { result_value = no_bytes tg; begins = (length tg, omega arith, refl) }
+    rw (not_mine_read tg (receipt_told tg reply.ensures (ap receipt_of c.in-NotMine.is))) record { result_value = no_bytes tg; begins = (length tg, omega arith, refl) }
 
 pub returns-in-Refused : goal.returns-in-Refused
 unfolding unread
 returns-in-Refused c =
     let tg = c.args.telegram.now in
     let reply = c.read_reply-reply in
-    rw (refused-read tg (receipt-told tg reply.ensures (ap receipt_of c.in-Refused.is))) record { result_value = no_bytes tg; begins = (length tg, omega arith, refl) }
+    rw (refused_read tg (receipt_told tg reply.ensures (ap receipt_of c.in-Refused.is))) record { result_value = no_bytes tg; begins = (length tg, omega arith, refl) }

@@ -7,10 +7,10 @@ use lib.ListN.{drop}
 use Rattle.mop_block.specs.Block.{first}
 use Rattle.mop_header.specs.Header.{head_of, block_start}
 use Rattle.mop_reader.specs.declared.Reader.TheVariants.{Centre}
-use Rattle.mop_reader.proofs.ReadBack.{sound-room}
+use Rattle.mop_reader.proofs.ReadBack.{sound_room}
 use Rattle.mop_centre.specs.Reply.{ReplyReading}
 use Rattle.base.proofs.Places.{rest_from}
-use Rattle.mop_centre.proofs.Replies.{block_room, body_from, route-room, station-read, miscounted_read, counted_read}
+use Rattle.mop_centre.proofs.Replies.{block_room, body_from, route_room, station_read, miscounted_read, counted_read}
 use Rattle.mop_centre.proofs.receive.Goals as goal
 use Rattle.mop_centre.proofs.receive.Goals.{After-first}
 
@@ -32,7 +32,7 @@ pub slice_bounds-body-count : goal.slice_bounds-body-count
 slice_bounds-body-count c =
     let s = c in
     let long = c.length-at.ensures (drop (block_start s.args.header.form) s.args.telegram.now) in
-    omega (arith, sound-room Centre _ _ s.requires, long)
+    omega (arith, sound_room Centre _ _ s.requires, long)
 
 pub slice_bounds-body-start : goal.slice_bounds-body-start
 slice_bounds-body-start c = slice_bounds-body-count c
@@ -41,7 +41,7 @@ pub returns-then-first-ne0 : goal.returns-then-first-ne0
 returns-then-first-ne0 c =
     let f = c in
     let s = f in
-    let other = station-read s.args.telegram.now s.requires (λ e. c.if-first-ne0.true (entry (goal.at.returns-then-first-ne0 f).After-first ∙ e)) in
+    let other = station_read s.args.telegram.now s.requires (λ e. c.if-first-ne0.true (entry (goal.at.returns-then-first-ne0 f).After-first ∙ e)) in
     c.unread.ensures ∙ sym (ap (λ (r : ReplyReading). r.answer) other)
 
 pub returns-then-not-is_counted : goal.returns-then-not-is_counted
@@ -58,7 +58,7 @@ returns-then-not-is_counted c =
 pub read_out-requires : goal.read_out-requires
 read_out-requires c =
     let m = c in
-    let tg = m.args.telegram.now in record { in_bounds = omega (arith, eqb-true, sym c.is_counted.ensures ∙ c.if-not-is_counted.false); block_len_bound = rw (rest_from tg m.block_start-start.ensures) (route-room tg m.requires) }
+    let tg = m.args.telegram.now in record { in_bounds = omega (arith, eqb-true, sym c.is_counted.ensures ∙ c.if-not-is_counted.false); block_len_bound = rw (rest_from tg m.block_start-start.ensures) (route_room tg m.requires) }
 
 pub returns : goal.returns
 returns c =

@@ -10,7 +10,7 @@ use Rattle.mop_block.specs.Zipper.{zeros}
 use Rattle.mop_header.specs.Header.{head, entries, new_control}
 use Rattle.mop_header.specs.declared.Function.TheVariants.{Request}
 use Rattle.mop_header.specs.declared.Form.TheVariants.{Standard, Extended}
-use Rattle.mop_centre.proofs.Routes.{standard_head, extended_head, block-filled}
+use Rattle.mop_centre.proofs.Routes.{standard_head, extended_head, block_filled}
 use Rattle.mop_centre.proofs.request_header.Goals as goal
 
 pub returns-then-n-le3 : goal.returns-then-n-le3
@@ -18,7 +18,7 @@ returns-then-n-le3 c =
     let route = c.args.route.now in
     let block = c.put.ensures ∙ ap (λ (b : List ℕ). sets b 0 route) c.requires.block_value in
     c.new.ensures _
-    ∙ ap (head Request new_control Standard) (ap (entries 4) block ∙ block-filled route 4 (omega arith) (omega arith))
+    ∙ ap (head Request new_control Standard) (ap (entries 4) block ∙ block_filled route 4 (omega arith) (omega arith))
     ∙ sym (standard_head route (omega arith))
 
 pub returns : goal.returns
@@ -28,5 +28,5 @@ returns c =
     let one : (n + 1) - n ≡ 1 = omega arith in
     let block = c.put.ensures ∙ ap (λ (b : List ℕ). sets b 0 route) c.requires.block_value in
     c.new-2.ensures _
-    ∙ ap (head Request new_control (Extended 0xEF)) (ap (entries (n + 1)) block ∙ block-filled route (n + 1) (omega arith) (omega arith) ∙ ap (λ (k : ℕ). route ++ zeros k) one)
+    ∙ ap (head Request new_control (Extended 0xEF)) (ap (entries (n + 1)) block ∙ block_filled route (n + 1) (omega arith) (omega arith) ∙ ap (λ (k : ℕ). route ++ zeros k) one)
     ∙ sym (extended_head route (omega arith))

@@ -7,7 +7,7 @@ use lib.ListN.{length, get_or, length-set}
 use Rattle.mop_block.specs.Block.{stations}
 use Rattle.mop_block.proofs.Scan.{zero_next}
 use Rattle.mop_header.specs.Header.{head_of}
-use Rattle.mop_centre.proofs.Routes.{passed_over, station-told, all_told, one_fewer, told-places}
+use Rattle.mop_centre.proofs.Routes.{passed_over, station_told, all_told, one_fewer, told_places}
 use Rattle.mop_centre.proofs.route_of.Goals as goal
 
 pub loop-i-init : goal.loop-i-init
@@ -40,7 +40,7 @@ loop-i-preserved c =
       v.invariant.1,
       simp length-set v.invariant.2,
       omega (arith, one_fewer b v.i inside station),
-      rw c.entry-a.ensures (station-told b v.i v.route v.place v.invariant.4 inside station),
+      rw c.entry-a.ensures (station_told b v.i v.route v.place v.invariant.4 inside station),
     )
 
 pub returns : goal.returns
@@ -48,4 +48,4 @@ returns c =
     let v = c.loop-i in
     let a = c.args in
     let b = (head_of a.header a.block.now).block in
-    all_told b v.i v.route v.place v.invariant.4 (omega arith) ∙ told-places (stations b) (omega arith)
+    all_told b v.i v.route v.place v.invariant.4 (omega arith) ∙ told_places (stations b) (omega arith)

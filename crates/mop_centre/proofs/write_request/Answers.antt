@@ -8,21 +8,21 @@ use lib.ListN.{length, take}
 use Rattle.base.specs.Filling.{fitted}
 use Rattle.mop_header.specs.Header.{Head, telegram_of}
 use Rattle.mop_centre.specs.Request.{request_telegram}
-use Rattle.mop_centre.proofs.Routes.{route-parts}
-use Rattle.mop_centre.proofs.Requests.{bad_route, long-read, long-write, request-fitted}
+use Rattle.mop_centre.proofs.Routes.{route_parts}
+use Rattle.mop_centre.proofs.Requests.{bad_route, long_read, long_write, request_fitted}
 use Rattle.mop_centre.proofs.write_request.Goals as goal
 
 pub returns-then-not-is_route : goal.returns-then-not-is_route
 returns-then-not-is_route c = sym (bad_route _ _ _ _ _ _ (sym c.is_route.ensures ∙ c.if-not-is_route.true))
 
 pub returns-then-rcount-gt-MAX_RUN : goal.returns-then-rcount-gt-MAX_RUN
-returns-then-rcount-gt-MAX_RUN c = sym (long-read _ _ _ _ _ _ (sym c.is_route.ensures ∙ c.if-not-is_route.false) (omega arith))
+returns-then-rcount-gt-MAX_RUN c = sym (long_read _ _ _ _ _ _ (sym c.is_route.ensures ∙ c.if-not-is_route.false) (omega arith))
 
 pub returns-then-values-gt-MAX_RUN : goal.returns-then-values-gt-MAX_RUN
-returns-then-values-gt-MAX_RUN c = sym (long-write _ _ _ _ _ _ (sym c.is_route.ensures ∙ c.if-not-is_route.false) c.if-values-gt-MAX_RUN.true)
+returns-then-values-gt-MAX_RUN c = sym (long_write _ _ _ _ _ _ (sym c.is_route.ensures ∙ c.if-not-is_route.false) c.if-values-gt-MAX_RUN.true)
 
 pub request_header-header-requires : goal.request_header-header-requires
-request_header-header-requires c = record { route_len_bound = (route-parts _ (sym c.is_route.ensures ∙ c.if-not-is_route.false)).most; block_value = refl }
+request_header-header-requires c = record { route_len_bound = (route_parts _ (sym c.is_route.ensures ∙ c.if-not-is_route.false)).most; block_value = refl }
 
 pub returns : goal.returns
 unfolding request_telegram
@@ -37,4 +37,4 @@ returns c =
     let bytes = ap (λ (k : ℕ). take k body.result) all ∙ body.ensures in
     c.write.ensures
     ∙ ap₂ (λ (h : Head) (l : List ℕ). fitted (telegram_of h l) out) at-request-header.request_header-header.ensures bytes
-    ∙ sym (request-fitted _ _ _ _ _ _ good at-request-header.if-rcount-gt-MAX_RUN.false at-request-header.if-values-gt-MAX_RUN.false)
+    ∙ sym (request_fitted _ _ _ _ _ _ good at-request-header.if-rcount-gt-MAX_RUN.false at-request-header.if-values-gt-MAX_RUN.false)

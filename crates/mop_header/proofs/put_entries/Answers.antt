@@ -7,7 +7,7 @@ use native.Mathlib.Omega.{arith}
 use lib.ListN.{length-set, drop_of_length-le}
 use lib.Seq.{sets}
 use Rattle.mop_header.specs.Header.{entries}
-use Rattle.mop_header.proofs.Turns.{length-entries, entry_put}
+use Rattle.mop_header.proofs.Turns.{length_entries, entry_put}
 use Rattle.mop_header.proofs.put_entries.Goals as goal
 
 pub loop-i-init : goal.loop-i-init
@@ -27,4 +27,4 @@ returns c =
     let a = c.args in
     let v = c.loop-i in
     let left : List ℕ = entries a.end a.block.now in
-    sym (ap (sets v.out v.place) (drop_of_length-le left {i = v.i} (omega (arith, length-entries a.end a.block.now)))) ∙ v.invariant.3
+    sym (ap (sets v.out v.place) (drop_of_length-le left {i = v.i} (omega (arith, length_entries a.end a.block.now)))) ∙ v.invariant.3

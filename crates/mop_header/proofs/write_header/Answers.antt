@@ -1,7 +1,7 @@
 -- `write_header`: the bytes before the block by the form, then the block.
 -- Assumes nothing.
 use Rattle.mop_header.proofs.Writing.{standard_stored, extended_stored}
-use Rattle.mop_header.proofs.Lengths.{length-block, counted}
+use Rattle.mop_header.proofs.Lengths.{length_block, counted}
 use Rattle.mop_header.specs.Header.{head_of, block_start}
 use native.Mathlib.Omega.{arith}
 use mathlib.Core.Path.{refl, sym, ap}
@@ -36,6 +36,6 @@ returns-in-Extended c =
     let form = s in
     let f = form in
     let a = f.args in
-    let count = sym (length-block a.header a.block.now) in
+    let count = sym (length_block a.header a.block.now) in
     rw (c.put_block-in-Extended.ensures, s.put-in-Extended.ensures)
     (extended_stored (head_of a.header a.block.now) a.out.now f.function_byte-byte.ensures refl form.in-Extended.is count)

@@ -2,7 +2,7 @@
 -- Assumes nothing.
 use mathlib.Core.Path.{sym, ◌∙◌}
 use native.Mathlib.Omega.{arith}
-use Rattle.mop_reader.proofs.Marks.{second_not_mark, third_not_mark, fourth_not_mark, by_first, begins, begins-request, begins-reply}
+use Rattle.mop_reader.proofs.Marks.{second_not_mark, third_not_mark, fourth_not_mark, by_first, begins, begins_request, begins_reply}
 use Rattle.mop_reader.proofs.is_mark.Goals as goal
 
 pub returns-then-b-ne-MARK : goal.returns-then-b-ne-MARK
@@ -18,7 +18,7 @@ pub returns-then-a-eq-MARK : goal.returns-then-a-eq-MARK
 returns-then-a-eq-MARK c = sym (by_first _ _ _ _ _ (omega arith) (omega arith) (omega arith) ∙ begins _ _ (omega arith))
 
 pub returns-in-Request : goal.returns-in-Request
-returns-in-Request c = rw c.in-Request.is (sym (by_first _ _ _ _ _ (omega arith) (omega arith) (omega arith) ∙ begins-request _ (omega arith)))
+returns-in-Request c = rw c.in-Request.is (sym (by_first _ _ _ _ _ (omega arith) (omega arith) (omega arith) ∙ begins_request _ (omega arith)))
 
 pub returns-in-Reply : goal.returns-in-Reply
-returns-in-Reply c = rw c.in-Reply.is (sym (by_first _ _ _ _ _ (omega arith) (omega arith) (omega arith) ∙ begins-reply _ (omega arith)))
+returns-in-Reply c = rw c.in-Reply.is (sym (by_first _ _ _ _ _ (omega arith) (omega arith) (omega arith) ∙ begins_reply _ (omega arith)))

@@ -63,8 +63,8 @@ unfolding place_of exists run_exists table_length
 returns-then-number-3 c = place_within 955 _ _ c.if-number-3.true refl
 
 -- the numbers of the runs
-abbrev inRuns : ℕ → Bool
-inRuns n = eqb n 2 || eqb n 300 || from_to 931 936 n || from_to 952 953 n || from_to 955 962 n
+abbrev in_runs : ℕ → Bool
+in_runs n = eqb n 2 || eqb n 300 || from_to 931 936 n || from_to 952 953 n || from_to 955 962 n
 
 pub returns-else-number-3 : goal.returns-else-number-3
 unfolding table_length
@@ -72,4 +72,4 @@ returns-else-number-3 c =
     let n = c.args.number in
     let two = ne_eqb n 2 c.if-number-eq2.false in
     let pump = ne_eqb n 300 c.if-number-eq300.false in
-    sym (no_place n inRuns refl (rw (two, pump, c.if-number.false, c.if-number-2.false, c.if-number-3.false)))
+    sym (no_place n in_runs refl (rw (two, pump, c.if-number.false, c.if-number-2.false, c.if-number-3.false)))

@@ -3,8 +3,8 @@
 use Prim.Native.Nat.{◌+◌}
 use mathlib.Core.Path.{refl, sym, ◌∙◌}
 use native.Mathlib.Omega.{arith}
-use Rattle.mop_registers.proofs.Places.{number_bound, taken-exists}
-use Rattle.mop_registers.proofs.Values.{takes_on, takes_off, takes-over}
+use Rattle.mop_registers.proofs.Places.{number_bound, taken_exists}
+use Rattle.mop_registers.proofs.Values.{takes_on, takes_off, takes_over}
 use Rattle.mop_registers.proofs.run_takes.Goals as goal
 
 pub loop-i-init : goal.loop-i-init
@@ -38,11 +38,11 @@ loop-i-preserved c =
     let v = test.loop-i in
     let yes = sym c.takes.ensures ∙ c.if-not-takes.false in (
       omega arith,
-      omega (arith, number_bound v.number (taken-exists v.number _ yes)),
+      omega (arith, number_bound v.number (taken_exists v.number _ yes)),
       takes_on test.args.values.now v.i v.number (omega arith) yes ∙ v.invariant.2,
     )
 
 pub returns : goal.returns
 returns c =
     let v = c.loop-i in
-    sym (takes-over c.args.values.now v.i v.number (omega arith)) ∙ v.invariant.2
+    sym (takes_over c.args.values.now v.i v.number (omega arith)) ∙ v.invariant.2

@@ -2,7 +2,7 @@
 -- Assumes nothing.
 use Rattle.mop_station.proofs.Telegrams.{not_set_up, set_up}
 use Rattle.mop_station.specs.Station.{hearing}
-use Rattle.mop_reader.proofs.ReadBack.{sound-room}
+use Rattle.mop_reader.proofs.ReadBack.{sound_room}
 use Rattle.mop_reader.specs.declared.Reader.TheVariants.{Station}
 use Rattle.mop_reader.specs.declared.HeaderRead.{HeaderRead}
 use Rattle.mop_reader.specs.Reading.{reading_of}
@@ -17,7 +17,7 @@ hear-requires c =
     let header = c in
     let r = header in
     let a = r.args in
-    sound-room Station a.telegram.now _
+    sound_room Station a.telegram.now _
     (sym r.read.ensures ∙ ap (λ (x : HeaderRead). reading_of x a.telegram.now) header.in-Fine.is)
 
 pub returns-in-Fault : goal.returns-in-Fault

@@ -1,6 +1,6 @@
 -- `take_telegram`: the step, and then what it sends.
 -- Assumes nothing.
-use Rattle.mop_step.proofs.Rooms.{Fits, answer-places, made_as, fits_as}
+use Rattle.mop_step.proofs.Rooms.{Fits, answer_places, made_as, fits_as}
 use Rattle.mop_station.specs.Station.{sending_by, taking}
 use Rattle.mop_step.specs.Step.{Step, StepCall, stepping, step_call_of}
 use Rattle.mop_step.specs.declared.StationStep.{StationStep}
@@ -36,7 +36,7 @@ pub slice_bounds-send-end : goal.slice_bounds-send-end
 slice_bounds-send-end c =
     let h = c in
     let s = h in
-    omega (arith, answer-places _ _ _ _ _ _ s.step.result _ _ _ s.step.ensures h.in-Answered.is)
+    omega (arith, answer_places _ _ _ _ _ _ s.step.result _ _ _ s.step.ensures h.in-Answered.is)
 
 pub send-requires-in-Answered : goal.send-requires-in-Answered
 send-requires-in-Answered c =

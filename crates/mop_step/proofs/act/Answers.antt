@@ -1,6 +1,6 @@
 -- `act`: by the function and the entry behind the own one.
 -- Assumes nothing.
-use Rattle.mop_step.proofs.Steps.{to-destination, to_relay, reply_to_relay}
+use Rattle.mop_step.proofs.Steps.{to_destination, to_relay, reply_to_relay}
 use Rattle.mop_step.specs.Step.{Step, lending}
 use mathlib.Core.Path.{sym, ◌∙◌, ap}
 use Rattle.mop_step.proofs.act.Goals as goal
@@ -9,7 +9,7 @@ pub returns-then-next-eq0 : goal.returns-then-next-eq0
 returns-then-next-eq0 c =
     let at-if1 = c in
     let a = at-if1.args in
-    c.answer.ensures ∙ sym (ap (λ (s : Step). lending s a.registers.now a.reply.now) (to-destination _ _ _ _ at-if1.in-Request.is (sym at-if1.next.ensures ∙ at-if1.if-next-eq0.true)))
+    c.answer.ensures ∙ sym (ap (λ (s : Step). lending s a.registers.now a.reply.now) (to_destination _ _ _ _ at-if1.in-Request.is (sym at-if1.next.ensures ∙ at-if1.if-next-eq0.true)))
 
 pub returns-else-next-eq0 : goal.returns-else-next-eq0
 returns-else-next-eq0 c =

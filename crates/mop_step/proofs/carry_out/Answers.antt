@@ -1,6 +1,6 @@
 -- `carry_out`: 11, or the registers written and the body of the reply put.
 -- Assumes nothing.
-use Rattle.mop_step.proofs.Answers.{length-reply, read-room, carried-short, carried-no-place, carried-answered}
+use Rattle.mop_step.proofs.Answers.{length_reply, read_room, carried_short, carried_no_place, carried_answered}
 use Rattle.mop_step.proofs.Steps.{short_by, room_by}
 use Rattle.mop_step.proofs.Bodies.{accepted}
 use Rattle.mop_step.specs.Step.{replied}
@@ -38,17 +38,17 @@ pub returns-then-not-has_room : goal.returns-then-not-has_room
 returns-then-not-has_room c =
     let h = c in
     let s = h in
-    let size = sym (length-reply s.args.body.now (after_writes s.args.body.now s.args.registers.now)) in
+    let size = sym (length_reply s.args.body.now (after_writes s.args.body.now s.args.registers.now)) in
     let short = short_by _ _ _ size (h.has_room.ensures s.args.block.now) (ap not c.if-not-has_room.true) in
-    carried-short _ (accepted _ s.requires.body_value) _ _ _ _ (sent (goal.at.returns-then-not-has_room h).After-has_room) short
+    carried_short _ (accepted _ s.requires.body_value) _ _ _ _ (sent (goal.at.returns-then-not-has_room h).After-has_room) short
 
 pub returns-then-reply-n : goal.returns-then-reply-n
 returns-then-reply-n c =
     let h = c in
     let s = h in
-    let size = sym (length-reply s.args.body.now (after_writes s.args.body.now s.args.registers.now)) in
+    let size = sym (length_reply s.args.body.now (after_writes s.args.body.now s.args.registers.now)) in
     let room = room_by _ _ _ size (h.has_room.ensures s.args.block.now) (ap not c.if-not-has_room.false) in
-    carried-no-place _ (accepted _ s.requires.body_value) _ _ _ _ (sent (goal.at.returns-then-reply-n h).After-has_room) room c.if-reply-n.true
+    carried_no_place _ (accepted _ s.requires.body_value) _ _ _ _ (sent (goal.at.returns-then-reply-n h).After-has_room) room c.if-reply-n.true
 
 pub write_registers-requires : goal.write_registers-requires
 write_registers-requires c =
@@ -60,7 +60,7 @@ put_reply-requires c =
     let at-write-registers = c in
     let s = at-write-registers in
     let a = accepted s.args.body.now s.requires.body_value in
-    record { in_bounds = omega (arith, a.long); body_in_bounds = omega (arith, read-room s.args.body.now a, s.requires.registers_len, at-write-registers.write_registers.auto.registers); body_in_bounds_2 = omega arith }
+    record { in_bounds = omega (arith, a.long); body_in_bounds = omega (arith, read_room s.args.body.now a, s.requires.registers_len, at-write-registers.write_registers.auto.registers); body_in_bounds_2 = omega arith }
 
 pub returns : goal.returns
 returns c =
@@ -68,7 +68,7 @@ returns c =
     let e = w in
     let h = e in
     let s = h in
-    let size = sym (length-reply s.args.body.now (after_writes s.args.body.now s.args.registers.now)) in
+    let size = sym (length_reply s.args.body.now (after_writes s.args.body.now s.args.registers.now)) in
     let room = room_by _ _ _ size (h.has_room.ensures s.args.block.now) (ap not e.if-not-has_room.false) in
-    carried-answered _ (accepted _ s.requires.body_value) _ _ _ _ (sent (goal.at.returns h).After-has_room) room s.requires.registers_len refl e.if-reply-n.false
+    carried_answered _ (accepted _ s.requires.body_value) _ _ _ _ (sent (goal.at.returns h).After-has_room) room s.requires.registers_len refl e.if-reply-n.false
     w.write_registers.ensures c.put_reply.ensures

@@ -1,14 +1,14 @@
 -- `judge_runs`: the tests in their order.
 -- Assumes nothing.
 use mathlib.Core.Path.{sym, ◌∙◌}
-use Rattle.mop_step.proofs.Bodies.{no-read-run, no-write-run, not_writable, out_of_range, runs_accepted}
+use Rattle.mop_step.proofs.Bodies.{no_read_run, no_write_run, not_writable, out_of_range, runs_accepted}
 use Rattle.mop_step.proofs.judge_runs.Goals as goal
 
 pub returns-then-not-run_exists : goal.returns-then-not-run_exists
-returns-then-not-run_exists c = sym (no-read-run _ _ _ _ _ (sym c.run_exists.ensures ∙ c.if-not-run_exists.true))
+returns-then-not-run_exists c = sym (no_read_run _ _ _ _ _ (sym c.run_exists.ensures ∙ c.if-not-run_exists.true))
 
 pub returns-then-not-run_exists-2 : goal.returns-then-not-run_exists-2
-returns-then-not-run_exists-2 c = sym (no-write-run _ _ _ _ _ (sym c.run_exists-2.ensures ∙ c.if-not-run_exists-2.true))
+returns-then-not-run_exists-2 c = sym (no_write_run _ _ _ _ _ (sym c.run_exists-2.ensures ∙ c.if-not-run_exists-2.true))
 
 pub returns-then-not-run_may_write : goal.returns-then-not-run_may_write
 returns-then-not-run_may_write c =

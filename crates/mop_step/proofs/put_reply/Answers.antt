@@ -1,6 +1,6 @@
 -- `put_reply`: three bytes as they came, and the bytes of the values behind them.
 -- Assumes nothing.
-use Rattle.mop_step.proofs.Stores.{reply-stored}
+use Rattle.mop_step.proofs.Stores.{reply_stored}
 use Rattle.mop_registers.specs.Rows.{place_of}
 use lib.Seq.{length-take-le}
 use lib.ListN.{length, get_or, take, drop, length-drop}
@@ -40,4 +40,4 @@ returns c =
     let values = take n (drop at a.registers.now) in
     let long : length values ≡ n = length-take-le n (drop at a.registers.now) (rw length-drop (omega arith)) in
     rw (c.put_words.ensures, end, ← place)
-    (reply-stored a.body.now values a.reply.now (omega arith) (omega arith) three.put.ensures)
+    (reply_stored a.body.now values a.reply.now (omega arith) (omega arith) three.put.ensures)

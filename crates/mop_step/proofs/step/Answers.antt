@@ -1,7 +1,7 @@
 -- `step`: the own address and the table, then the first entry.
 -- Assumes nothing.
 use Rattle.mop_step.proofs.Stations.{station_table}
-use Rattle.mop_step.proofs.Steps.{no-station, for_another, for_this}
+use Rattle.mop_step.proofs.Steps.{no_station, for_another, for_this}
 use Rattle.mop_step.specs.Step.{Step, lending}
 use mathlib.Core.Path.{sym, ◌∙◌, ap}
 use Rattle.mop_step.proofs.step.Goals as goal
@@ -10,7 +10,7 @@ pub returns-then-not-is_station : goal.returns-then-not-is_station
 unfolding lending
 returns-then-not-is_station c =
     let a = c.args in
-    sym (ap (λ (s : Step). lending s a.registers.now a.reply.now) (no-station _ _ _ _ _ (sym c.is_station.ensures ∙ c.if-not-is_station.true)))
+    sym (ap (λ (s : Step). lending s a.registers.now a.reply.now) (no_station _ _ _ _ _ (sym c.is_station.ensures ∙ c.if-not-is_station.true)))
 
 pub returns-then-first-own : goal.returns-then-first-own
 unfolding lending

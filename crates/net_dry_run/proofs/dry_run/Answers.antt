@@ -1,6 +1,6 @@
 -- `dry_run`: the refusals in their order, and then the journey.
 -- Assumes nothing.
-use Rattle.net_dry_run.proofs.DryRuns.{not_set_up, too_long, output-short, run_by}
+use Rattle.net_dry_run.proofs.DryRuns.{not_set_up, too_long, output_short, run_by}
 use Rattle.net_dry_run.specs.DryRun.{run_of}
 use Rattle.net_hop.specs.Tables.{set_up}
 use Rattle.mop_reader.specs.declared.HeaderRead.{HeaderRead}
@@ -21,7 +21,7 @@ pub returns-then-telegram-gt-MAX_TELEGRAM : goal.returns-then-telegram-gt-MAX_TE
 returns-then-telegram-gt-MAX_TELEGRAM c = sym (too_long _ _ _ _ (is_set (goal.at.returns-then-telegram-gt-MAX_TELEGRAM c).Else-not-is_set_up) c.if-telegram-gt-MAX_TELEGRAM.true)
 
 pub returns-then-out-lt-RUN_OUTPUT : goal.returns-then-out-lt-RUN_OUTPUT
-returns-then-out-lt-RUN_OUTPUT c = sym (output-short _ _ _ _ (is_set (goal.at.returns-then-out-lt-RUN_OUTPUT c).Else-not-is_set_up) c.if-telegram-gt-MAX_TELEGRAM.false c.if-out-lt-RUN_OUTPUT.true)
+returns-then-out-lt-RUN_OUTPUT c = sym (output_short _ _ _ _ (is_set (goal.at.returns-then-out-lt-RUN_OUTPUT c).Else-not-is_set_up) c.if-telegram-gt-MAX_TELEGRAM.false c.if-out-lt-RUN_OUTPUT.true)
 
 pub play-requires : goal.play-requires
 play-requires c =

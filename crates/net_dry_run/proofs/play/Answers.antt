@@ -3,7 +3,7 @@
 use Rattle.net_dry_run.proofs.Legs.{whole_run}
 use Rattle.net_hop.proofs.Ways.{sets_out}
 use mathlib.Core.Path.{◌∙◌}
-use Rattle.mop_reader.proofs.ReadBack.{sound-room}
+use Rattle.mop_reader.proofs.ReadBack.{sound_room}
 use Rattle.mop_header.proofs.Lengths.{start_within}
 use Rattle.mop_reader.specs.declared.Reader.TheVariants.{Station}
 use Rattle.mop_header.specs.Header.{block_start}
@@ -16,7 +16,7 @@ slice_bounds-run-count c =
     let s = c in
     let h = s.args.header in
     let start = start_within h (drop (block_start h.form) s.args.telegram.now) c.block_start-start.ensures in
-    omega (arith, start, sound-room Station _ _ s.requires.telegram_value)
+    omega (arith, start, sound_room Station _ _ s.requires.telegram_value)
 
 pub slice_bounds-run-start : goal.slice_bounds-run-start
 slice_bounds-run-start c = slice_bounds-run-count c
@@ -25,7 +25,7 @@ pub slice_bounds-run-count-2 : goal.slice_bounds-run-count-2
 slice_bounds-run-count-2 c =
     let s = c in
     let long = c.length-at.ensures (drop (block_start s.args.header.form) s.args.telegram.now) in
-    omega (arith, long, sound-room Station _ _ s.requires.telegram_value)
+    omega (arith, long, sound_room Station _ _ s.requires.telegram_value)
 
 pub slice_bounds-run-start-2 : goal.slice_bounds-run-start-2
 slice_bounds-run-start-2 c = slice_bounds-run-count-2 c

@@ -8,18 +8,18 @@ use Rattle.mop_header.specs.Header.{head_of}
 use Rattle.net_journey.specs.Bounded.{most_transmissions}
 use Rattle.net_hop.specs.Hop.{hop_of}
 use Rattle.net_hop.specs.declared.HopAnswer.{HopAnswer}
-use Rattle.net_hop.proofs.Hops.{Means, means_as, answered-count}
+use Rattle.net_hop.proofs.Hops.{Means, means_as, answered_count}
 use Rattle.net_dry_run.proofs.Legs.{leg_begins, leg_goes_on, leg_turns, leg_ends, leg_over}
 use Rattle.net_dry_run.proofs.walk.Goals as goal
 use Rattle.net_dry_run.proofs.walk.Goals.{After-hop}
 
 -- what a hop of the loop says of the journey
 module _ (s : After-hop) where
-  tables-long : length s.hop.new.tables ≡ length s.args.tables.now
-  tables-long = s.hop.auto.tables ∙ s.loop-gone.invariant.1
+  tables_long : length s.hop.new.tables ≡ length s.args.tables.now
+  tables_long = s.hop.auto.tables ∙ s.loop-gone.invariant.1
 
-  reply-long : length s.hop.new.reply ≡ length s.args.reply.now
-  reply-long = s.hop.auto.reply ∙ s.loop-gone.invariant.2
+  reply_long : length s.hop.new.reply ≡ length s.args.reply.now
+  reply_long = s.hop.auto.reply ∙ s.loop-gone.invariant.2
 
   left : s.loop-gone.gone < most_transmissions
   left = omega arith
@@ -41,31 +41,31 @@ pub loop-gone-preserved : goal.loop-gone-preserved
 loop-gone-preserved c =
     let s = (goal.at.loop-gone-preserved c).After-hop in (
       omega arith,
-      tables-long s,
-      reply-long s,
+      tables_long s,
+      reply_long s,
       leg_goes_on c.loop-gone.invariant.3 (left s) (meant s c.in-Relayed.is),
     )
 
 pub shape_of-tables-in-Answered : goal.shape_of-tables-in-Answered
-shape_of-tables-in-Answered c = tables-long (goal.at.shape_of-tables-in-Answered c).After-hop
+shape_of-tables-in-Answered c = tables_long (goal.at.shape_of-tables-in-Answered c).After-hop
 
 pub shape_of-reply-in-Answered : goal.shape_of-reply-in-Answered
-shape_of-reply-in-Answered c = reply-long (goal.at.shape_of-reply-in-Answered c).After-hop
+shape_of-reply-in-Answered c = reply_long (goal.at.shape_of-reply-in-Answered c).After-hop
 
 pub returns-in-Answered : goal.returns-in-Answered
 returns-in-Answered c =
     let s = (goal.at.returns-in-Answered c).After-hop in
     let told = c.in-Answered.is in
-    let most = answered-count _ _ _ _ c.loop-gone.reply c.hop.result c.args.block.now _ _ c.hop.ensures told in (
-      omega (arith, most, reply-long s, c.requires.max_reply_in_bounds),
+    let most = answered_count _ _ _ _ c.loop-gone.reply c.hop.result c.args.block.now _ _ c.hop.ensures told in (
+      omega (arith, most, reply_long s, c.requires.max_reply_in_bounds),
       leg_turns c.loop-gone.invariant.3 (left s) (meant s told),
     )
 
 pub shape_of-tables-in-Ended : goal.shape_of-tables-in-Ended
-shape_of-tables-in-Ended c = tables-long (goal.at.shape_of-tables-in-Ended c).After-hop
+shape_of-tables-in-Ended c = tables_long (goal.at.shape_of-tables-in-Ended c).After-hop
 
 pub shape_of-reply-in-Ended : goal.shape_of-reply-in-Ended
-shape_of-reply-in-Ended c = reply-long (goal.at.shape_of-reply-in-Ended c).After-hop
+shape_of-reply-in-Ended c = reply_long (goal.at.shape_of-reply-in-Ended c).After-hop
 
 pub returns-in-Ended : goal.returns-in-Ended
 returns-in-Ended c =

@@ -8,7 +8,7 @@ use lib.ListN.{take, length-take}
 use lib.Seq.{get_or-take}
 use Rattle.net_hop.specs.Tables.{max_stations}
 use Rattle.net_hop.specs.Hop.{places_of}
-use Rattle.net_hop.proofs.Places.{place-step, place_none}
+use Rattle.net_hop.proofs.Places.{place_step, place_none}
 use Rattle.net_hop.proofs.places_of.Goals as goal
 
 pub loop-i-init : goal.loop-i-init
@@ -33,7 +33,7 @@ loop-i-preserved c =
     let all = c.args.addresses.now in
     let list = take max_stations all in
     let one : v.i < max_stations = omega arith in
-    let step = place-step list v.places v.i v.invariant.3 (omega (arith, length-take max_stations all)) in
+    let step = place_step list v.places v.i v.invariant.3 (omega (arith, length-take max_stations all)) in
     (omega arith, omega arith, search rules, rw (get_or-take max_stations all v.i 0 one) at step)
 
 pub returns : goal.returns

@@ -1,6 +1,6 @@
 -- `step_at`: the station's table is a part of the tables.
 -- Assumes nothing.
-use Rattle.net_hop.proofs.Hops.{stepped-at}
+use Rattle.net_hop.proofs.Hops.{stepped_at}
 use Rattle.mop_registers.proofs.Places.{table_length_lem}
 use Rattle.mop_registers.specs.Rows.{table_length}
 use native.Mathlib.Omega.{arith}
@@ -29,25 +29,25 @@ unfolding table_length
 returns-in-Relayed c =
     let s = c in
     let a = s.args in
-    stepped-at a.own a.place _ _ _ _ _ _ _ _ refl (size (table_length * a.place)) s.step.ensures c.in-Relayed.is
+    stepped_at a.own a.place _ _ _ _ _ _ _ _ refl (size (table_length * a.place)) s.step.ensures c.in-Relayed.is
 
 pub returns-in-Answered : goal.returns-in-Answered
 unfolding table_length
 returns-in-Answered c =
     let s = c in
     let a = s.args in
-    stepped-at a.own a.place _ _ _ _ _ _ _ _ refl (size (table_length * a.place)) s.step.ensures c.in-Answered.is
+    stepped_at a.own a.place _ _ _ _ _ _ _ _ refl (size (table_length * a.place)) s.step.ensures c.in-Answered.is
 
 pub returns-in-NotMine : goal.returns-in-NotMine
 unfolding table_length
 returns-in-NotMine c =
     let s = c in
     let a = s.args in
-    stepped-at a.own a.place _ _ _ _ _ _ _ _ refl (size (table_length * a.place)) s.step.ensures c.in-NotMine.is
+    stepped_at a.own a.place _ _ _ _ _ _ _ _ refl (size (table_length * a.place)) s.step.ensures c.in-NotMine.is
 
 pub returns-in-Refused : goal.returns-in-Refused
 unfolding table_length
 returns-in-Refused c =
     let s = c in
     let a = s.args in
-    stepped-at a.own a.place _ _ _ _ _ _ _ _ refl (size (table_length * a.place)) s.step.ensures c.in-Refused.is
+    stepped_at a.own a.place _ _ _ _ _ _ _ _ refl (size (table_length * a.place)) s.step.ensures c.in-Refused.is

@@ -1,7 +1,7 @@
 -- `write_entries`: what is written, and what is left from i on, make the whole. What is left falls.
 -- Assumes nothing.
 use mathlib.Core.Path.{refl, ◌∙◌}
-use Rattle.base.proofs.Writing.{writing_call, writing-end}
+use Rattle.base.proofs.Writing.{writing_call, writing_end}
 use Rattle.net_report.proofs.Lines.{hex_next, hex_end}
 use native.Mathlib.Omega.{arith}
 use Rattle.mop_header.specs.Header.{head_of}
@@ -33,4 +33,4 @@ returns c =
     let v = c.loop-i in
     let a = c.args in
     let block = (head_of a.header a.block.now).block in
-    record { out_after = writing-end (hex_end block v.i (omega arith)) v.place v.out v.invariant.4; upper_bound = omega arith }
+    record { out_after = writing_end (hex_end block v.i (omega arith)) v.place v.out v.invariant.4; upper_bound = omega arith }

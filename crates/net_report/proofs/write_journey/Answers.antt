@@ -7,11 +7,11 @@ use native.Mathlib.Omega.{arith}
 use lib.ListN.{drop}
 use Rattle.mop_header.specs.Header.{block_start}
 use Rattle.mop_reader.specs.declared.Reader.TheVariants.{Station}
-use Rattle.mop_reader.proofs.ReadBack.{sound-room}
+use Rattle.mop_reader.proofs.ReadBack.{sound_room}
 use Rattle.mop_header.proofs.Lengths.{start_within}
 use Rattle.net_hop.proofs.Ways.{sets_out}
 use Rattle.net_report.specs.Private.Legs.{LegBy}
-use Rattle.net_report.proofs.Telling.{journey-told}
+use Rattle.net_report.proofs.Telling.{journey_told}
 use borrow.Author.Rules.{rules}
 use Rattle.net_report.proofs.write_journey.Goals as goal
 
@@ -19,7 +19,7 @@ pub slice_bounds-block-count : goal.slice_bounds-block-count
 slice_bounds-block-count c =
     let h = c.args.header in
     let start = start_within h (drop (block_start h.form) c.args.telegram.now) c.block_start-start.ensures in
-    omega (arith, start, sound-room Station _ _ c.requires.telegram_value)
+    omega (arith, start, sound_room Station _ _ c.requires.telegram_value)
 
 pub slice_bounds-block-start : goal.slice_bounds-block-start
 slice_bounds-block-start c = slice_bounds-block-count c
@@ -27,7 +27,7 @@ slice_bounds-block-start c = slice_bounds-block-count c
 pub slice_bounds-write_leg-count : goal.slice_bounds-write_leg-count
 slice_bounds-write_leg-count c =
     let long = c.length-behind.ensures (drop (block_start c.args.header.form) c.args.telegram.now) in
-    omega (arith, long, sound-room Station _ _ c.requires.telegram_value)
+    omega (arith, long, sound_room Station _ _ c.requires.telegram_value)
 
 pub slice_bounds-write_leg-start : goal.slice_bounds-write_leg-start
 slice_bounds-write_leg-start c = slice_bounds-write_leg-count c
@@ -61,7 +61,7 @@ returns-in-Told c =
     let a = c.args in
     let p = c.requires in
     let e = subst (LegBy _ _ _ _ _ _ _) c.in-Told.is c.write_leg.ensures in
-    journey-told a.header a.telegram.now a.addresses.now a.tables.now p.telegram_value
+    journey_told a.header a.telegram.now a.addresses.now a.tables.now p.telegram_value
     c.block_start-start.ensures c.length-behind.ensures a.out.now p.report_output_in_bounds e
 
 pub returns-in-Told-write_leg : goal.returns-in-Told-write_leg
@@ -70,7 +70,7 @@ returns-in-Told-write_leg c =
     let p = c.requires in
     let o = subst (LegBy _ _ _ _ _ _ _) c.in-Answered.is c.write_leg.ensures in
     let h = subst (LegBy _ _ _ _ _ _ _) c.in-Told-write_leg.is c.write_leg-in-Answered.ensures in
-    journey-told a.header a.telegram.now a.addresses.now a.tables.now p.telegram_value
+    journey_told a.header a.telegram.now a.addresses.now a.tables.now p.telegram_value
     c.block_start-start.ensures c.length-behind.ensures a.out.now p.report_output_in_bounds (h.0 ∙ rw sub-zero o.3.whole, h.1)
 
 pub shape_of-tables-in-Answered-write_leg : goal.shape_of-tables-in-Answered-write_leg

@@ -9,21 +9,21 @@ use Rattle.mop_header.specs.Header.{head_of}
 use Rattle.mop_step.specs.Step.{max_reply}
 use Rattle.net_hop.specs.Hop.{hop_of}
 use Rattle.net_hop.specs.declared.HopAnswer.{HopAnswer}
-use Rattle.net_hop.proofs.Hops.{Means, means_as, answered-count}
-use Rattle.net_report.proofs.Telling.{few_entries, told_over, told-end, told_on}
+use Rattle.net_hop.proofs.Hops.{Means, means_as, answered_count}
+use Rattle.net_report.proofs.Telling.{few_entries, told_over, told_end, told_on}
 use Rattle.net_report.proofs.write_leg.Goals as goal
 use Rattle.net_report.proofs.write_leg.Goals.{After-write_line-place, After-hop}
 
 -- a line leaves the output as long as it was
-out-long : (c : After-write_line-place) → length c.write_line-place.new.out ≡ length c.args.out.now
-out-long c = c.write_line-place.auto.out ∙ c.loop-told.invariant.4
+out_long : (c : After-write_line-place) → length c.write_line-place.new.out ≡ length c.args.out.now
+out_long c = c.write_line-place.auto.out ∙ c.loop-told.invariant.4
 
 -- a hop leaves the tables and the reply as long as they were
-tables-long : (c : After-hop) → length c.hop.new.tables ≡ length c.args.tables.now
-tables-long c = c.hop.auto.tables ∙ c.loop-told.invariant.2
+tables_long : (c : After-hop) → length c.hop.new.tables ≡ length c.args.tables.now
+tables_long c = c.hop.auto.tables ∙ c.loop-told.invariant.2
 
-reply-long : (c : After-hop) → length c.hop.new.reply ≡ length c.args.reply.now
-reply-long c = c.hop.auto.reply ∙ c.loop-told.invariant.3
+reply_long : (c : After-hop) → length c.hop.new.reply ≡ length c.args.reply.now
+reply_long c = c.hop.auto.reply ∙ c.loop-told.invariant.3
 
 -- a hop finds room for a reply
 enough : (c : After-hop) → max_reply ≤ length c.loop-told.reply
@@ -57,7 +57,7 @@ shape_of-reply-then-told-gt-MOST_TRANSMISSIONS c = c.loop-told.invariant.3
 
 pub shape_of-out-then-told-gt-MOST_TRANSMISSIONS : goal.shape_of-out-then-told-gt-MOST_TRANSMISSIONS
 shape_of-out-then-told-gt-MOST_TRANSMISSIONS c =
-    c.write_closing.auto.out ∙ out-long (goal.at.shape_of-out-then-told-gt-MOST_TRANSMISSIONS c).After-write_line-place
+    c.write_closing.auto.out ∙ out_long (goal.at.shape_of-out-then-told-gt-MOST_TRANSMISSIONS c).After-write_line-place
 
 pub returns-then-told-gt-MOST_TRANSMISSIONS : goal.returns-then-told-gt-MOST_TRANSMISSIONS
 returns-then-told-gt-MOST_TRANSMISSIONS c =
@@ -72,19 +72,19 @@ loop-told-preserved c =
     let p = means at.After-hop c.in-Relayed.is in (
       told_on c.loop-told.invariant.0 w.out_after w.upper_bound (omega arith) p.goes,
       p.function ∙ c.loop-told.invariant.1,
-      tables-long at.After-hop,
-      reply-long at.After-hop,
-      out-long at.After-write_line-place,
+      tables_long at.After-hop,
+      reply_long at.After-hop,
+      out_long at.After-write_line-place,
     )
 
 pub shape_of-tables-in-Answered : goal.shape_of-tables-in-Answered
-shape_of-tables-in-Answered c = tables-long (goal.at.shape_of-tables-in-Answered c).After-hop
+shape_of-tables-in-Answered c = tables_long (goal.at.shape_of-tables-in-Answered c).After-hop
 
 pub shape_of-reply-in-Answered : goal.shape_of-reply-in-Answered
-shape_of-reply-in-Answered c = reply-long (goal.at.shape_of-reply-in-Answered c).After-hop
+shape_of-reply-in-Answered c = reply_long (goal.at.shape_of-reply-in-Answered c).After-hop
 
 pub shape_of-out-in-Answered : goal.shape_of-out-in-Answered
-shape_of-out-in-Answered c = out-long (goal.at.shape_of-out-in-Answered c).After-write_line-place
+shape_of-out-in-Answered c = out_long (goal.at.shape_of-out-in-Answered c).After-write_line-place
 
 pub returns-in-Answered : goal.returns-in-Answered
 returns-in-Answered c =
@@ -95,26 +95,26 @@ returns-in-Answered c =
     let r = c.hop.new in
     let told = c.in-Answered.is in
     let p = means s told in
-    let most = answered-count c.places_of-places.result (head_of v.header a.block.now) a.body.now v.tables v.reply c.hop.result a.block.now r.tables r.reply c.hop.ensures told in
+    let most = answered_count c.places_of-places.result (head_of v.header a.block.now) a.body.now v.tables v.reply c.hop.result a.block.now r.tables r.reply c.hop.ensures told in
     (omega (arith, most, c.hop.auto.reply, enough s), sym v.invariant.1 ∙ p.request, p.back, told_on v.invariant.0 w.out_after w.upper_bound (omega arith) p.goes)
 
 pub write_closing-requires-in-Ended : goal.write_closing-requires-in-Ended
 write_closing-requires-in-Ended c =
-    let long = out-long (goal.at.write_closing-requires-in-Ended c).After-write_line-place in
+    let long = out_long (goal.at.write_closing-requires-in-Ended c).After-write_line-place in
     omega (arith, c.write_line-place.ensures.upper_bound, long, c.loop-told.invariant.0.room, c.requires.report_output_in_bounds)
 
 pub shape_of-tables-in-Ended : goal.shape_of-tables-in-Ended
-shape_of-tables-in-Ended c = tables-long (goal.at.shape_of-tables-in-Ended c).After-hop
+shape_of-tables-in-Ended c = tables_long (goal.at.shape_of-tables-in-Ended c).After-hop
 
 pub shape_of-reply-in-Ended : goal.shape_of-reply-in-Ended
-shape_of-reply-in-Ended c = reply-long (goal.at.shape_of-reply-in-Ended c).After-hop
+shape_of-reply-in-Ended c = reply_long (goal.at.shape_of-reply-in-Ended c).After-hop
 
 pub shape_of-out-in-Ended : goal.shape_of-out-in-Ended
-shape_of-out-in-Ended c = c.write_closing-in-Ended.auto.out ∙ out-long (goal.at.shape_of-out-in-Ended c).After-write_line-place
+shape_of-out-in-Ended c = c.write_closing-in-Ended.auto.out ∙ out_long (goal.at.shape_of-out-in-Ended c).After-write_line-place
 
 pub returns-in-Ended : goal.returns-in-Ended
 returns-in-Ended c =
     let s = (goal.at.returns-in-Ended c).After-hop in
     let w = c.write_line-place.ensures in
     let x = c.write_closing-in-Ended.ensures in
-    told-end c.loop-told.invariant.0 w.out_after w.upper_bound (omega arith) (means s c.in-Ended.is) x.out_after x.upper_bound
+    told_end c.loop-told.invariant.0 w.out_after w.upper_bound (omega arith) (means s c.in-Ended.is) x.out_after x.upper_bound

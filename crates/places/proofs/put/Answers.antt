@@ -5,7 +5,7 @@ use Prim.Native.Nat.{ℕ, ◌-◌}
 use lib.ListN.{length, take}
 use lib.Seq.{sets}
 use native.Mathlib.Omega.{arith}
-use Rattle.places.proofs.Copies.{sets_beyond, sets-room}
+use Rattle.places.proofs.Copies.{sets_beyond, sets_room}
 use Rattle.places.proofs.put.Goals as goal
 
 pub returns-then-out-at : goal.returns-then-out-at
@@ -23,4 +23,4 @@ returns c =
     let none : room - 0 ≡ room = omega arith in
     c.copy-2.ensures
     ∙ ap (λ (n : ℕ). sets a.out.now a.at (take n a.bytes.now)) none
-    ∙ sets-room a.out.now a.at room a.bytes.now (omega arith) (omega arith)
+    ∙ sets_room a.out.now a.at room a.bytes.now (omega arith) (omega arith)

@@ -18,8 +18,8 @@ held s = to_z w8 (of_z w8 s.args.z)
 held_fits : (s : Start) → SFits w8 (held s)
 held_fits s = sfits_to_z (Fits-of_z s.ranges.z)
 
-held-bits : (s : Start) → bits_of top8 (held s) ≡ bits_of top8 s.args.z
-held-bits s = ap (bits_of top8) (to_z-of_z s.ranges.z)
+held_bits : (s : Start) → bits_of top8 (held s) ≡ bits_of top8 s.args.z
+held_bits s = ap (bits_of top8) (to_z-of_z s.ranges.z)
 
 pub overflow_sub-below : goal.overflow_sub-below
 overflow_sub-below c = below_fits w8 (held (goal.at.overflow_sub-below c).Start) (held_fits (goal.at.overflow_sub-below c).Start) c.if-z-lt0.true
@@ -31,10 +31,10 @@ pub overflow_sub-result : goal.overflow_sub-result
 overflow_sub-result c = omega (arith, below_less w8 (held (goal.at.overflow_sub-result c).Start) (held_fits (goal.at.overflow_sub-result c).Start) c.if-z-lt0.true)
 
 pub returns-then-z-lt0 : goal.returns-then-z-lt0
-returns-then-z-lt0 c = below_bits w8 (held (goal.at.returns-then-z-lt0 c).Start) (held_fits (goal.at.returns-then-z-lt0 c).Start) c.if-z-lt0.true ∙ held-bits (goal.at.returns-then-z-lt0 c).Start
+returns-then-z-lt0 c = below_bits w8 (held (goal.at.returns-then-z-lt0 c).Start) (held_fits (goal.at.returns-then-z-lt0 c).Start) c.if-z-lt0.true ∙ held_bits (goal.at.returns-then-z-lt0 c).Start
 
 pub overflow_cast-result-2 : goal.overflow_cast-result-2
 overflow_cast-result-2 c = above_cast w8 (held (goal.at.overflow_cast-result-2 c).Start) (held_fits (goal.at.overflow_cast-result-2 c).Start) c.if-z-lt0.false
 
 pub returns : goal.returns
-returns c = above_bits w8 (held (goal.at.returns c).Start) c.if-z-lt0.false ∙ held-bits (goal.at.returns c).Start
+returns c = above_bits w8 (held (goal.at.returns c).Start) c.if-z-lt0.false ∙ held_bits (goal.at.returns c).Start

@@ -3,7 +3,7 @@
 use mathlib.Core.Path.{refl, sym, ◌∙◌}
 use native.Mathlib.Omega.{arith}
 use Rattle.crc16.specs.Ccitt.{ccitt_bit, ccitt_byte}
-use Rattle.crc16.proofs.Check.{steps-turn, steps-end}
+use Rattle.crc16.proofs.Check.{steps_turn, steps_end}
 use Rattle.crc16.proofs.ccitt.byte.Goals as goal
 
 pub overflow_mul-r : goal.overflow_mul-r
@@ -16,9 +16,9 @@ loop-i-init c = (omega arith, refl)
 pub loop-i-preserved : goal.loop-i-preserved
 loop-i-preserved c =
     let v = c.loop-i in
-    (omega arith, rw c.bit-r.ensures (sym (steps-turn ccitt_bit 8 v.i v.r (omega arith)) ∙ v.invariant.1))
+    (omega arith, rw c.bit-r.ensures (sym (steps_turn ccitt_bit 8 v.i v.r (omega arith)) ∙ v.invariant.1))
 
 pub returns : goal.returns
 returns c =
     let v = c.loop-i in
-    sym (steps-end ccitt_bit 8 v.i v.r (omega arith)) ∙ v.invariant.1
+    sym (steps_end ccitt_bit 8 v.i v.r (omega arith)) ∙ v.invariant.1
