@@ -25,6 +25,7 @@ APART = {
     "crates/net_exchange/proofs/Exchange.antt": {"read_count": "read-count"},
     "crates/c_link/proofs/States.antt": {"is_state": "is_state_lem"},
     "crates/c_link/proofs/hanraquin_receive/Proof.antt": {"is_state": "is_state_lem"},
+    "crates/c_link_send/proofs/Kept.antt": {"is_state": "is_state_lem"},
     "crates/net_journey/proofs/Start.antt": {"at_zero": "at_zero_lem"},
 }
 
