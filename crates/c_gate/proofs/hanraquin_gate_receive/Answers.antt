@@ -1,5 +1,6 @@
 -- `hanraquin_gate_receive`: the tests of event and state, and then the event.
 -- Assumes nothing.
+use native.Mathlib.Omega.{arith}
 use mathlib.Core.Bool.{true}
 use mathlib.Core.Path.{◌≡◌, sym, ◌∙◌}
 use Rattle.c_gate.specs.Bus.{is_state}
@@ -26,4 +27,4 @@ pub returns : goal.returns
 returns c =
     let r = c in
     let e = r in
-    r.receive_at.ensures ∙ sym (at_state _ _ _ _ _ e.if-event-gt-TIMER.false (state (goal.at.returns e).Else-not-is_state))
+    r.receive_at.ensures ∙ sym (at_state _ _ _ _ _ (omega arith) (state (goal.at.returns e).Else-not-is_state))

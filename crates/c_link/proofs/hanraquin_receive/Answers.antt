@@ -1,5 +1,6 @@
 -- `hanraquin_receive`: the tests of event and state, and then the event.
 -- Assumes nothing.
+use native.Mathlib.Omega.{arith}
 use mathlib.Core.Path.{◌≡◌, sym, ◌∙◌}
 use mathlib.Core.Bool.{true}
 use Rattle.c_link.specs.Link.{is_state}
@@ -9,7 +10,7 @@ use Rattle.c_link.proofs.hanraquin_receive.Goals.{Else-state-gt255}
 
 -- the numbers that pass these tests are a state
 state : (s : Else-state-gt255) → is_state s.args.state.now ≡ true
-state s = is_state_lem _ s.if-state-ne3.false s.if-state-gt3.false s.if-state-gt255.false
+state s = is_state_lem _ s.if-state-ne3.false (omega arith) s.if-state-gt255.false
 
 pub returns-then-event-gt-TIMER : goal.returns-then-event-gt-TIMER
 returns-then-event-gt-TIMER c = rw c.refused.ensures (sym (no_event _ _ _ c.if-event-gt-TIMER.true))
@@ -35,4 +36,4 @@ receive_at-requires c = state (goal.at.receive_at-requires c).Else-state-gt255
 pub returns : goal.returns
 returns c =
     c.receive_at.ensures
-    ∙ sym (at_state _ _ _ c.if-event-gt-TIMER.false (state (goal.at.returns c).Else-state-gt255))
+    ∙ sym (at_state _ _ _ (omega arith) (state (goal.at.returns c).Else-state-gt255))

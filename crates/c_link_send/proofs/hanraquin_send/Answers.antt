@@ -1,5 +1,6 @@
 -- `hanraquin_send`: the tests of event and numbers, and then the event.
 -- Assumes nothing.
+use native.Mathlib.Omega.{arith}
 use mathlib.Core.Bool.{true}
 use mathlib.Core.Path.{◌≡◌, sym, ◌∙◌}
 use Rattle.c_link_send.specs.Send.{is_sender}
@@ -26,4 +27,4 @@ pub returns : goal.returns
 returns c =
     let r = c in
     let e = r in
-    r.send_at.ensures ∙ sym (at_sender_lem _ _ _ _ _ e.if-event-gt-START.false (sender (goal.at.returns e).Else-not-is_sender))
+    r.send_at.ensures ∙ sym (at_sender_lem _ _ _ _ _ (omega arith) (sender (goal.at.returns e).Else-not-is_sender))

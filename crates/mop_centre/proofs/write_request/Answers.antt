@@ -37,4 +37,4 @@ returns c =
     let bytes = ap (λ (k : ℕ). take k body.result) all ∙ body.ensures in
     c.write.ensures
     ∙ ap₂ (λ (h : Head) (l : List ℕ). fitted (telegram_of h l) out) at-request-header.request_header-header.ensures bytes
-    ∙ sym (request_fitted _ _ _ _ _ _ good at-request-header.if-rcount-gt-MAX_RUN.false at-request-header.if-values-gt-MAX_RUN.false)
+    ∙ sym (request_fitted _ _ _ _ _ _ good (omega arith) at-request-header.if-values-gt-MAX_RUN.false)

@@ -20,7 +20,7 @@ form_is a e =
     let k = g in
     let who = k.args.reader in
     let tg = k.args.telegram.now in
-    by_form _ _ k.if-telegram-gt-MAX_TELEGRAM.false k.if-telegram-lt6.false k.is_allowed.ensures g.if-not-is_allowed.false g.function_of-function.ensures a.is_mark-extended.ensures
+    by_form _ _ k.if-telegram-gt-MAX_TELEGRAM.false (omega arith) k.is_allowed.ensures g.if-not-is_allowed.false g.function_of-function.ensures a.is_mark-extended.ensures
     ∙ ap (λ (marked : Bool). pick marked (extended_reading who tg) (standard_reading who tg)) e
 
 pub returns-then-telegram-gt-MAX_TELEGRAM : goal.returns-then-telegram-gt-MAX_TELEGRAM
@@ -30,7 +30,7 @@ pub returns-then-telegram-lt6 : goal.returns-then-telegram-lt6
 returns-then-telegram-lt6 c = sym (cut _ _ c.if-telegram-gt-MAX_TELEGRAM.false c.if-telegram-lt6.true)
 
 pub returns-then-not-is_allowed : goal.returns-then-not-is_allowed
-returns-then-not-is_allowed c = sym (not_allowed _ _ c.if-telegram-gt-MAX_TELEGRAM.false c.if-telegram-lt6.false (sym c.is_allowed.ensures ∙ c.if-not-is_allowed.true))
+returns-then-not-is_allowed c = sym (not_allowed _ _ c.if-telegram-gt-MAX_TELEGRAM.false (omega arith) (sym c.is_allowed.ensures ∙ c.if-not-is_allowed.true))
 
 pub returns-then-telegram-lt7 : goal.returns-then-telegram-lt7
 returns-then-telegram-lt7 c = sym (form_is (goal.at.returns-then-telegram-lt7 c).After-is_mark-extended c.if-extended.true ∙ count_cut _ _ c.if-telegram-lt7.true)
