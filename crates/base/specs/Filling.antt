@@ -1,6 +1,6 @@
 -- What a call that writes gives back, and what it leaves in its output.
 -- Assumes nothing.
-use Rattle.std.specs.Prelude.{ℕ, List, ltb, length}
+use Rattle.std.specs.Prelude.{ℕ, List, Result, Ok, Err, ltb, length}
 use Rattle.base.specs.Choice.{pick}
 use Rattle.base.specs.Places.{placed}
 
@@ -8,6 +8,11 @@ use Rattle.base.specs.Places.{placed}
 pub data Given : Type 0 where
   filled : ℕ → Given
   refused : ℕ → Given
+
+-- the answer of a call whose refusals have these numbers
+abbrev pub given_by : {R : Type 0} → (R → ℕ) → Result ℕ R → Given
+given_by number (Ok n) = filled n
+given_by number (Err r) = refused (number r)
 
 -- what the call gives back, and its output afterwards
 pub record Filling : Type 0 where

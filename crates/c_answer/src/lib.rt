@@ -3,11 +3,10 @@
 #![tactic(auto)]
 
 ghost use Rattle.std.specs.Prelude.{◌≡◌};
-ghost use Rattle.refusal.specs.Numbers.{number_of};
-ghost use Rattle.refusal.specs.Writing.{given_of};
+ghost use Rattle.base.specs.Filling.{given_by};
 ghost use Rattle.c_answer.specs.Answer.{refused, of_writing};
 
-use refusal::{Refusal, WriteAnswer};
+use refusal::Numbered;
 
 // What one step of the kind counts in an answer.
 pub const KINDS: u64 = 4294967296;
@@ -15,26 +14,19 @@ pub const KINDS: u64 = 4294967296;
 // The answer "not mine".
 pub const NOT_MINE: u64 = 255 * KINDS;
 
-// The answer of a call that is refused with a number.
-pub fn refused_with(number: u8) -> u64
-    ensures { result ≡ refused number }
-{
-    number as u64 * KINDS
-}
-
 // The answer of a refused call.
-pub fn refused(refusal: Refusal) -> u64
-    ensures { result ≡ refused (number_of refusal) }
+pub fn refused<R: Numbered>(refusal: R) -> u64
+    ensures { result ≡ refused (R.numeral refusal) }
 {
-    refused_with(refusal.number())
+    refusal.number() as u64 * KINDS
 }
 
 // The answer of a call that writes.
-pub fn of_writing(answer: WriteAnswer) -> u64
-    ensures { result ≡ of_writing (given_of answer) }
+pub fn of_writing<R: Numbered>(answer: Result<usize, R>) -> u64
+    ensures { result ≡ of_writing (given_by R.numeral answer) }
 {
     match answer {
-        WriteAnswer::Written(n) => n as u64,
-        WriteAnswer::Refused(r) => refused(r),
+        Ok(n) => n as u64,
+        Err(r) => refused(r),
     }
 }

@@ -16,30 +16,13 @@ ghost use Rattle.c_gate.specs.Answers.{answer_at, write_answer_call, kind_of, nu
 use gate_answers::{ACK, AnswerRead, BUSY, BarrierAnswer, COUNT, NAK, POSITION, SYN};
 use gate_commands::{COMMANDS, GateRegisters, OperateAnswer};
 use gate_receive::{GateAnswer, GateEvent, GateState};
-use gate_refusal::{GateRefusal, GateWritten};
-
-// The answer of a refused call.
-fn refused(refusal: GateRefusal) -> u64
-    ensures { result ≡ refused (number_of refusal) }
-{
-    c_answer::refused_with(refusal.number())
-}
-
-// The answer of a call that writes.
-fn of_writing(answer: GateWritten) -> u64
-    ensures { result ≡ of_writing (given_of answer) }
-{
-    match answer {
-        GateWritten::Written(n) => n as u64,
-        GateWritten::Refused(r) => refused(r),
-    }
-}
+use gate_refusal::GateRefusal;
 
 // The telegram from source to destination with the data: gate_telegram::write. The value is its length.
 pub fn hanraquin_gate_write(destination: u8, source: u8, src: &[u8], out: &mut [u8]) -> u64
     ensures { written result out.new ≡ write_call destination source src.now out.old }
 {
-    of_writing(gate_telegram::write(destination, source, src, &mut *out))
+    c_answer::of_writing(gate_telegram::write(destination, source, src, &mut *out))
 }
 
 // How many numbers a state has.
@@ -254,7 +237,7 @@ fn of_answer(answer: GateAnswer) -> u64
         GateAnswer::Nothing => 0,
         GateAnswer::Telegram { source, size } => 65536 + 256 * source as u64 + size as u64,
         GateAnswer::Token { source } => 131072 + source as u64,
-        GateAnswer::Refused(r) => refused(r),
+        GateAnswer::Refused(r) => c_answer::refused(r),
     }
 }
 
@@ -286,10 +269,10 @@ pub fn hanraquin_gate_receive(
     ensures { received result state.new store.new out.new ≡ receive_call own state.old store.old event out.old }
 {
     if TIMER < event {
-        return refused(GateRefusal::Setup);
+        return c_answer::refused(GateRefusal::Setup);
     }
     if !is_state(&*state) {
-        return refused(GateRefusal::Setup);
+        return c_answer::refused(GateRefusal::Setup);
     }
     receive_at(own, &mut *state, &mut *store, event, &mut *out)
 }
@@ -345,7 +328,7 @@ fn of_verdict(answer: OperateAnswer) -> u64
     match answer {
         OperateAnswer::Ack => 1,
         OperateAnswer::Nak => 2,
-        OperateAnswer::Refused(r) => refused(r),
+        OperateAnswer::Refused(r) => c_answer::refused(r),
     }
 }
 
@@ -376,10 +359,10 @@ pub fn hanraquin_gate_operate(src: &[u8], levels: &mut [u8], edges: &mut [u8]) -
     ensures { operated result levels.new edges.new ≡ operate_call src.now levels.old edges.old }
 {
     if !is_bits(&*levels) {
-        return refused(GateRefusal::Setup);
+        return c_answer::refused(GateRefusal::Setup);
     }
     if !is_bits(&*edges) {
-        return refused(GateRefusal::Setup);
+        return c_answer::refused(GateRefusal::Setup);
     }
     operate_at(src, &mut *levels, &mut *edges)
 }
@@ -388,7 +371,7 @@ pub fn hanraquin_gate_operate(src: &[u8], levels: &mut [u8], edges: &mut [u8]) -
 pub fn hanraquin_gate_write_command(command: u8, function: u8, out: &mut [u8]) -> u64
     ensures { written result out.new ≡ write_command_call command function out.old }
 {
-    of_writing(gate_commands::write_command(command, function, &mut *out))
+    c_answer::of_writing(gate_commands::write_command(command, function, &mut *out))
 }
 
 // The position with a number, which is judged before it is narrowed.
@@ -432,8 +415,8 @@ pub fn hanraquin_gate_write_answer(kind: u8, number: i32, out: &mut [u8]) -> u64
     ensures { written result out.new ≡ write_answer_call kind number out.old }
 {
     match answer_at(kind, number) {
-        AnswerRead::Answer(answer) => of_writing(gate_answers::write_answer(answer, &mut *out)),
-        AnswerRead::Refused(r) => refused(r),
+        AnswerRead::Answer(answer) => c_answer::of_writing(gate_answers::write_answer(answer, &mut *out)),
+        AnswerRead::Refused(r) => c_answer::refused(r),
     }
 }
 
@@ -469,7 +452,7 @@ pub fn hanraquin_gate_read_answer(src: &[u8], number: &mut [i32]) -> u64
     ensures { answer_told result number.new ≡ read_answer_call src.now number.old }
 {
     if number.len() != 1 {
-        return refused(GateRefusal::Setup);
+        return c_answer::refused(GateRefusal::Setup);
     }
     match gate_answers::read_answer(src) {
         AnswerRead::Answer(answer) => {
@@ -477,6 +460,6 @@ pub fn hanraquin_gate_read_answer(src: &[u8], number: &mut [i32]) -> u64
             number[0] = z;
             kind_of(answer)
         }
-        AnswerRead::Refused(r) => refused(r),
+        AnswerRead::Refused(r) => c_answer::refused(r),
     }
 }

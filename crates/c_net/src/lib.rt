@@ -9,7 +9,7 @@ ghost use Rattle.c_net.specs.Private.Small.{SmallRun};
 
 use net_dry_run::DryRunAnswer;
 use net_hop::JourneyEnd;
-use refusal::Refusal;
+use refusal::{Numbered, Refusal};
 
 // The number of an ending.
 fn ending_number(end: JourneyEnd) -> u32

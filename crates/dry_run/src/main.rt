@@ -7,7 +7,6 @@ ghost use Rattle.std.proofs.lemmas.List.Edits.{sets};
 ghost use Rattle.mop_registers.specs.Rows.{factory};
 
 use mop_registers::TABLE_LENGTH;
-use refusal::WriteAnswer;
 use std::io;
 
 // The places of the tables of three stations.
@@ -45,7 +44,7 @@ fn main(rt: HostRuntime) -> io::Result<()> {
     let mut tables = factory_tables();
     let mut text = [0u8; 6500];
     let answer = net_report::report(&input[..n], &addresses, &mut tables, &mut text);
-    if let WriteAnswer::Written(length) = answer {
+    if let Ok(length) = answer {
         if length <= text.len() {
             rt.write_all(&text[0..length])?;
         }

@@ -11,7 +11,7 @@ use Rattle.base.specs.Filling.{denied, fitted}
 use Rattle.base.proofs.Filling.{fitted_short, fitted_stored}
 use Rattle.signed.specs.Signed.{top8, top32, bits_of, four_bytes}
 use Rattle.gate_refusal.specs.Writing.{filling_of}
-use Rattle.gate_refusal.specs.declared.GateWritten.TheVariants.{Written}
+use Rattle.std.specs.Prelude.{Ok}
 use Rattle.gate_answers.specs.Answers.{count, position, is_position, answer_bytes, is_answer, answer_writing}
 use Rattle.gate_answers.specs.declared.BarrierAnswer.TheVariants.{Count, Position}
 
@@ -21,7 +21,7 @@ module _ (z : ℤ) (out : List ℕ) where
   count_short h = fitted_short (answer_bytes (Count z)) out h
 
   pub count_room : {n : ℕ} {four new : List ℕ} → n ≡ bits_of top32 z → four ≡ four_bytes n → new ≡ sets (set out 0 count) 1 four →
-      5 ≤ length out → filling_of (Written 5) new ≡ fitted (answer_bytes (Count z)) out
+      5 ≤ length out → filling_of (Ok 5) new ≡ fitted (answer_bytes (Count z)) out
   unfolding answer_bytes four_bytes
   count_room e f g h = rw (g, f, e) (fitted_stored (answer_bytes (Count z)) out h)
 
@@ -39,6 +39,6 @@ module _ (z : ℤ) (out : List ℕ) where
     position_short h = position_good ∙ fitted_short (answer_bytes (Position z)) out h
 
     pub position_room : {b : ℕ} → b ≡ bits_of top8 z → 2 ≤ length out →
-        filling_of (Written 2) (set (set out 0 position) 1 b) ≡ answer_writing (Position z) out
+        filling_of (Ok 2) (set (set out 0 position) 1 b) ≡ answer_writing (Position z) out
     unfolding answer_bytes
     position_room e h = rw (e, position_good) (fitted_stored (answer_bytes (Position z)) out h)

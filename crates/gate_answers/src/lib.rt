@@ -8,7 +8,7 @@ ghost use Rattle.gate_refusal.specs.Writing.{filling_of};
 ghost use Rattle.gate_answers.specs.Answers.{is_position, answer_bytes, answer_writing, reads, reading_of, sized, position_at, answer_reading};
 ghost use Rattle.gate_answers.specs.declared.BarrierAnswer.TheVariants.{Count, Position};
 
-use gate_refusal::{GateRefusal, GateWritten};
+use gate_refusal::GateRefusal;
 
 // The first bytes of the answers.
 pub const ACK: u8 = 0x01;
@@ -53,47 +53,47 @@ pub fn is_position(z: i32) -> bool
 }
 
 // Writes an answer of one byte.
-fn write_kind(kind: u8, out: &mut [u8]) -> GateWritten
+fn write_kind(kind: u8, out: &mut [u8]) -> Result<usize, GateRefusal>
     ensures { filling_of result out.new ≡ fitted (kind ∷ []) out.old }
 {
     if out.len() < 1 {
-        return GateWritten::Refused(GateRefusal::OutputShort);
+        return Err(GateRefusal::OutputShort);
     }
     out[0] = kind;
-    GateWritten::Written(1)
+    Ok(1)
 }
 
 // Writes the answer with the vehicle count.
-fn write_count(z: i32, out: &mut [u8]) -> GateWritten
+fn write_count(z: i32, out: &mut [u8]) -> Result<usize, GateRefusal>
     ensures { filling_of result out.new ≡ fitted (answer_bytes (Count z)) out.old }
 {
     if out.len() < 5 {
-        return GateWritten::Refused(GateRefusal::OutputShort);
+        return Err(GateRefusal::OutputShort);
     }
     let four = signed::four_bytes(signed::unsigned32(z));
     out[0] = COUNT;
     places::put(&four, &mut *out, 1);
-    GateWritten::Written(5)
+    Ok(5)
 }
 
 // Writes the answer with a position.
-fn write_position(z: i8, out: &mut [u8]) -> GateWritten
+fn write_position(z: i8, out: &mut [u8]) -> Result<usize, GateRefusal>
     ensures { filling_of result out.new ≡ answer_writing (Position z) out.old }
 {
     if !is_position(z as i32) {
-        return GateWritten::Refused(GateRefusal::Position);
+        return Err(GateRefusal::Position);
     }
     if out.len() < 2 {
-        return GateWritten::Refused(GateRefusal::OutputShort);
+        return Err(GateRefusal::OutputShort);
     }
     out[0] = POSITION;
     out[1] = signed::unsigned8(z);
-    GateWritten::Written(2)
+    Ok(2)
 }
 
 // The bytes of an answer in the first places of out, and their number; the other places keep their values.
 // Refused, and out as it was: 10 for a position that is not -1 to 100, then 11 for an output that is too short.
-pub fn write_answer(answer: BarrierAnswer, out: &mut [u8]) -> GateWritten
+pub fn write_answer(answer: BarrierAnswer, out: &mut [u8]) -> Result<usize, GateRefusal>
     ensures { filling_of result out.new ≡ answer_writing answer out.old }
 {
     match answer {

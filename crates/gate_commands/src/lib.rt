@@ -5,7 +5,7 @@ ghost use Rattle.std.specs.Prelude.{◌≡◌, false, replicate, ◌<◌};
 ghost use Rattle.gate_refusal.specs.Writing.{filling_of};
 ghost use Rattle.gate_commands.specs.Commands.{after, function_of, carried_out, operation_of, commanding, operating, command_writing};
 
-use gate_refusal::{GateRefusal, GateWritten};
+use gate_refusal::GateRefusal;
 
 // How many commands there are: 00 BT, 01 BA, 02 BZ, 03 BS, 04 to 09 the relays 1 to 6.
 pub const COMMANDS: usize = 10;
@@ -170,12 +170,12 @@ pub fn operate(registers: GateRegisters, src: &[u8]) -> Operated
 
 // The operating command with these two bytes, whatever they are, in the first places of out, and its length; the other
 // places keep their values. Refused, and out as it was: 11 for an output that is too short.
-pub fn write_command(command: u8, function: u8, out: &mut [u8]) -> GateWritten
+pub fn write_command(command: u8, function: u8, out: &mut [u8]) -> Result<usize, GateRefusal>
     ensures { filling_of result out.new ≡ command_writing command function out.old }
 {
     if out.len() < 3 {
-        return GateWritten::Refused(GateRefusal::OutputShort);
+        return Err(GateRefusal::OutputShort);
     }
     places::put(&[OPERATE, command, function], &mut *out, 0);
-    GateWritten::Written(3)
+    Ok(3)
 }

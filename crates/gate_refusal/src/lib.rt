@@ -1,47 +1,35 @@
-// The refusals of the gate bus, each with the number that is given back, and the answer of a call that writes.
+// The refusals of the gate bus, each with the number that is given back.
 #![tactic(auto)]
 
-ghost use Rattle.std.specs.Prelude.{◌≡◌};
 ghost use Rattle.gate_refusal.specs.Numbers.{number_of};
+ghost use Rattle.gate_refusal.specs.Private.Numbers.{numbers_differ};
 
-#[derive(Clone, Copy)]
+use refusal::Numbered;
+
+#[derive(Clone, Copy, Debug, PartialEq, Eq)]
 pub enum GateRefusal {
     // The state counts more than its telegram can have, or the store has the wrong length.
-    Setup,
+    Setup = 1,
     // Another kind of data.
-    Kind,
+    Kind = 3,
     // The telegram or its data has the wrong length.
-    Length,
+    Length = 7,
     // The position is not -1 to 100.
-    Position,
+    Position = 10,
     // The output is too short.
-    OutputShort,
+    OutputShort = 11,
     // The check of the telegram is wrong.
-    Check,
+    Check = 15,
     // The address FF, or a token that is not between masters.
-    Address,
+    Address = 16,
 }
 
-impl GateRefusal {
-    // The number that is given back.
-    pub fn number(self) -> u8
-        ensures { result ≡ number_of self }
-    {
-        match self {
-            GateRefusal::Setup => 1,
-            GateRefusal::Kind => 3,
-            GateRefusal::Length => 7,
-            GateRefusal::Position => 10,
-            GateRefusal::OutputShort => 11,
-            GateRefusal::Check => 15,
-            GateRefusal::Address => 16,
-        }
+impl Numbered for GateRefusal {
+    ghost numeral = { number_of };
+
+    fn number(self) -> u8 {
+        self as u8
     }
-}
 
-// What a call that writes gives: the length that it filled, or a refusal.
-#[derive(Clone, Copy)]
-pub enum GateWritten {
-    Written(usize),
-    Refused(GateRefusal),
+    ghost differ = { numbers_differ };
 }

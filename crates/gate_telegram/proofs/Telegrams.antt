@@ -12,7 +12,7 @@ use Rattle.base.proofs.Places.{sets_append, sets_placed}
 use Rattle.crc16.specs.Ccitt.{ccitt_start, ccitt_over}
 use Rattle.crc16.proofs.CcittCheck.{ccitt_append, ccitt_bound}
 use Rattle.gate_refusal.specs.Writing.{filling_of}
-use Rattle.gate_refusal.specs.declared.GateWritten.TheVariants.{Written}
+use Rattle.std.specs.Prelude.{Ok}
 use Rattle.gate_telegram.specs.Telegram.{start_byte, checked, check_of, telegram_of}
 
 -- what stands before the data
@@ -51,6 +51,6 @@ module _ (d s : ℕ) (bs : List ℕ) where
     pub telegram_written : {front check : ℕ} {begun filled ended : List ℕ} → front ≡ ccitt_over ccitt_start (opening d s (length bs)) →
         check ≡ ccitt_over front bs → begun ≡ sets out 0 (opening d s (length bs)) → filled ≡ sets begun 4 bs →
         ended ≡ sets filled (length bs + 4) (bytes_of (check ∷ [])) → length bs + 6 ≤ length out →
-        filling_of (Written (length bs + 6)) ended ≡ written (telegram_of d s bs) out
+        filling_of (Ok (length bs + 6)) ended ≡ written (telegram_of d s bs) out
     telegram_written e f g h k room =
         rw (k, h, g, f, e, ← check_split, telegram_stores, ← length_telegram, sets_placed (telegram_of d s bs) out (rw length_telegram room))

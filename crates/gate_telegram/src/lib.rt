@@ -7,7 +7,7 @@ ghost use Rattle.gate_refusal.specs.Writing.{filling_of};
 ghost use Rattle.gate_telegram.specs.Telegram.{slave_token, telegram_of, telegram_writing};
 
 use crc16::ccitt;
-use gate_refusal::{GateRefusal, GateWritten};
+use gate_refusal::GateRefusal;
 
 // The first byte of every telegram.
 pub const START_BYTE: u8 = 0x55;
@@ -35,7 +35,7 @@ pub fn is_slave_token(destination: u8, source: u8, n: usize) -> bool
 }
 
 // Writes the telegram, for which the output has room.
-fn write_telegram(destination: u8, source: u8, src: &[u8], out: &mut [u8]) -> GateWritten
+fn write_telegram(destination: u8, source: u8, src: &[u8], out: &mut [u8]) -> Result<usize, GateRefusal>
     requires { (length src.now ≤ 253) × (length src.now + 6 ≤ length out.old) }
     ensures { filling_of result out.new ≡ written (telegram_of destination source src.now) out.old }
 {
@@ -45,30 +45,30 @@ fn write_telegram(destination: u8, source: u8, src: &[u8], out: &mut [u8]) -> Ga
     places::put(&head, &mut *out, 0);
     places::put(src, &mut *out, 4);
     words::put_words(&[check], &mut *out, n + 4);
-    GateWritten::Written(n + 6)
+    Ok(n + 6)
 }
 
 // The telegram from source to destination with the data, in the first places of out, and its length; the other places keep
 // their values. With no data it is a token. Refused, and out as it was: 16 for the address FF, or a token to or from a slave;
 // then 7 for more than MAX_DATA bytes of data; then 11 for an output that is too short.
-pub fn write(destination: u8, source: u8, src: &[u8], out: &mut [u8]) -> GateWritten
+pub fn write(destination: u8, source: u8, src: &[u8], out: &mut [u8]) -> Result<usize, GateRefusal>
     ensures { filling_of result out.new ≡ telegram_writing destination source src.now out.old }
 {
     let n = src.len();
     if destination == RESERVED {
-        return GateWritten::Refused(GateRefusal::Address);
+        return Err(GateRefusal::Address);
     }
     if source == RESERVED {
-        return GateWritten::Refused(GateRefusal::Address);
+        return Err(GateRefusal::Address);
     }
     if is_slave_token(destination, source, n) {
-        return GateWritten::Refused(GateRefusal::Address);
+        return Err(GateRefusal::Address);
     }
     if MAX_DATA < n {
-        return GateWritten::Refused(GateRefusal::Length);
+        return Err(GateRefusal::Length);
     }
     if out.len() < n + 6 {
-        return GateWritten::Refused(GateRefusal::OutputShort);
+        return Err(GateRefusal::OutputShort);
     }
     write_telegram(destination, source, src, &mut *out)
 }

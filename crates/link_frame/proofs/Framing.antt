@@ -15,7 +15,7 @@ use Rattle.base.proofs.Filling.{fitted_short, fitted_room}
 use Rattle.link_frame.specs.ControlBytes.{ETX, DLE}
 use Rattle.link_frame.specs.Frame.{doubled, checked, check_byte, frame_of, framing}
 use Rattle.refusal.specs.Writing.{filling_of}
-use Rattle.refusal.specs.declared.WriteAnswer.TheVariants.{Written}
+use Rattle.std.specs.Prelude.{Ok}
 
 -- the frame as the doubled data and three bytes more
 pub frame_bytes : (d : List ℕ) → frame_of d ≡ doubled d ++ (DLE ∷ ETX ∷ check_byte d ∷ [])
@@ -35,9 +35,9 @@ module _ (d out : List ℕ) where
 
   -- the three stores behind the doubled data make the frame
   pub frame_written : {w : Writing} → w ≡ writing 0 (doubled d) out → length (doubled d) + 3 ≤ length out →
-      filling_of (Written (w.at + 3)) (closed w.at (check_byte d) w.output) ≡ written (frame_of d) out
+      filling_of (Ok (w.at + 3)) (closed w.at (check_byte d) w.output) ≡ written (frame_of d) out
   frame_written e h =
-      ap (λ (w : Writing). filling_of (Written (w.at + 3)) (closed w.at (check_byte d) w.output)) e
+      ap (λ (w : Writing). filling_of (Ok (w.at + 3)) (closed w.at (check_byte d) w.output)) e
       ∙ rw (zero-add (length (doubled d)), frame_stores, ← length_frame d, sets_placed (frame_of d) out (rw length_frame h))
 
   pub framing_long : 1024 < length d → framing d out ≡ denied 12 out

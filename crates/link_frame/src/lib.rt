@@ -12,7 +12,7 @@ ghost use Rattle.link_frame.specs.Frame.{check_byte, doubled, frame_of, framing,
 ghost use Rattle.link_frame.specs.Private.Tests.{is_dle, is_other};
 
 use control::{DLE, ETX};
-use refusal::{Refusal, WriteAnswer};
+use refusal::Refusal;
 
 // The most bytes of data in one block.
 pub const MAX_DATA: usize = 1024;
@@ -182,7 +182,7 @@ fn check_byte(src: &[u8], n: usize) -> u8
 }
 
 // Writes the frame of the data, for which the output has room.
-fn write_frame(src: &[u8], out: &mut [u8]) -> WriteAnswer
+fn write_frame(src: &[u8], out: &mut [u8]) -> Result<usize, Refusal>
     requires { length (doubled src.now) + 3 ≤ length out.old }
     ensures { filling_of result out.new ≡ written (frame_of src.now) out.old }
 {
@@ -190,24 +190,24 @@ fn write_frame(src: &[u8], out: &mut [u8]) -> WriteAnswer
     out[at] = DLE;
     out[at + 1] = ETX;
     out[at + 2] = check_byte(src, at);
-    WriteAnswer::Written(at + 3)
+    Ok(at + 3)
 }
 
 // The frame of the data in the first places of out, and its length; the other places keep their values.
 // Refused, and out as it was: 12 for more than MAX_DATA bytes of data, then 11 for an output that is too short.
-pub fn frame(src: &[u8], out: &mut [u8]) -> WriteAnswer
+pub fn frame(src: &[u8], out: &mut [u8]) -> Result<usize, Refusal>
     ensures { filling_of result out.new ≡ framing src.now out.old }
 {
     let n = src.len();
     if MAX_DATA < n {
-        return WriteAnswer::Refused(Refusal::TooLong);
+        return Err(Refusal::TooLong);
     }
     // The longest frame fits: no need to count first.
     if 2 * n + 3 <= out.len() {
         return write_frame(src, &mut *out);
     }
     if out.len() < doubled_length(src) + 3 {
-        return WriteAnswer::Refused(Refusal::OutputShort);
+        return Err(Refusal::OutputShort);
     }
     write_frame(src, &mut *out)
 }

@@ -13,7 +13,7 @@ ghost use Rattle.link_send.specs.Private.Plans.{parts_of, behind, turn_by, taken
 
 use link_frame::{MAX_DATA, control};
 use link_receive::{Dle, LinkAnswer, LinkEvent, LinkState, Phase};
-use refusal::{Refusal, WriteAnswer};
+use refusal::Refusal;
 
 // Numbers of attempts: to connect in one attempt to send the block, and to send the block.
 #[derive(Clone, Copy)]
@@ -449,35 +449,35 @@ fn is_misset(state: Sender, buffer: &[u8]) -> bool
 }
 
 // Writes one byte.
-fn write_one(b: u8, out: &mut [u8]) -> WriteAnswer
+fn write_one(b: u8, out: &mut [u8]) -> Result<usize, Refusal>
     ensures { filling_of result out.new ≡ fitted (b ∷ []) out.old }
 {
     if out.len() < 1 {
-        return WriteAnswer::Refused(Refusal::OutputShort);
+        return Err(Refusal::OutputShort);
     }
     out[0] = b;
-    WriteAnswer::Written(1)
+    Ok(1)
 }
 
 // Writes two bytes.
-fn write_two(first: u8, second: u8, out: &mut [u8]) -> WriteAnswer
+fn write_two(first: u8, second: u8, out: &mut [u8]) -> Result<usize, Refusal>
     ensures { filling_of result out.new ≡ fitted (first ∷ second ∷ []) out.old }
 {
     if out.len() < 2 {
-        return WriteAnswer::Refused(Refusal::OutputShort);
+        return Err(Refusal::OutputShort);
     }
     out[0] = first;
     out[1] = second;
-    WriteAnswer::Written(2)
+    Ok(2)
 }
 
 // Writes what goes out.
-fn write(going: Going, src: &[u8], out: &mut [u8]) -> WriteAnswer
+fn write(going: Going, src: &[u8], out: &mut [u8]) -> Result<usize, Refusal>
     requires { length src.now ≤ max_data }
     ensures { filling_of result out.new ≡ fitted (bytes_of src.now (parts_of going)) out.old }
 {
     match going {
-        Going::Nothing => WriteAnswer::Written(0),
+        Going::Nothing => Ok(0),
         Going::Opening => write_one(Sender::STX, &mut *out),
         Going::Answer(b) => write_one(b, &mut *out),
         Going::AnswerThenOpening(b) => write_two(b, Sender::STX, &mut *out),
@@ -496,12 +496,12 @@ fn refuse(refusal: Refusal, state: Sender) -> SendStep
 }
 
 // What is answered when the bytes have been written, or have no room.
-fn finish(written: WriteAnswer, planned: Plan, state: Sender) -> SendStep
+fn finish(written: Result<usize, Refusal>, planned: Plan, state: Sender) -> SendStep
     ensures { reaction_of result ≡ finished (given_of written) (turn_by planned) state }
 {
     match written {
-        WriteAnswer::Refused(refusal) => refuse(refusal, state),
-        WriteAnswer::Written(n) => {
+        Err(refusal) => refuse(refusal, state),
+        Ok(n) => {
             let delivery = planned.delivery;
             let next = planned.next;
             match delivery {

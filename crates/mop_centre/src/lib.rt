@@ -13,8 +13,8 @@ ghost use Rattle.mop_centre.specs.Request.{max_route, max_run, good_route, reque
 ghost use Rattle.mop_centre.specs.Reply.{receipt_of, answer_of, route_places, read_out, unread, reply_reading, Begins};
 
 use mop_header::{Form, Function, Header, MARK, NEW_CONTROL};
-use mop_reader::{HeaderRead, Reader};
-use refusal::{Refusal, WriteAnswer};
+use mop_reader::Reader;
+use refusal::Refusal;
 
 // The most stations of a route.
 pub const MAX_ROUTE: usize = 31;
@@ -104,17 +104,17 @@ pub fn write_request(
     wstart: u16,
     values: &[u16],
     out: &mut [u8],
-) -> WriteAnswer
+) -> Result<usize, Refusal>
     ensures { filling_of result out.new ≡ requesting route.now rstart rcount wstart values.now out.old }
 {
     if !is_route(route) {
-        return WriteAnswer::Refused(Refusal::Block);
+        return Err(Refusal::Block);
     }
     if MAX_RUN < rcount {
-        return WriteAnswer::Refused(Refusal::TooLong);
+        return Err(Refusal::TooLong);
     }
     if MAX_RUN < values.len() {
-        return WriteAnswer::Refused(Refusal::TooLong);
+        return Err(Refusal::TooLong);
     }
     let mut block = [0u8; REQUEST_BLOCK];
     let header = request_header(route, &mut block);
@@ -215,8 +215,8 @@ pub fn read_reply(telegram: &[u8]) -> ReplyRead
     ensures { answer_of result ≡ (reply_reading telegram.now).answer }
 {
     match mop_reader::read(Reader::Centre, telegram) {
-        HeaderRead::Fault(r) => unread(ReplyVerdict::Refused(r)),
-        HeaderRead::Fine(header) => receive(header, telegram),
+        Err(r) => unread(ReplyVerdict::Refused(r)),
+        Ok(header) => receive(header, telegram),
     }
 }
 

@@ -10,7 +10,7 @@ use Rattle.base.specs.Filling.{denied, fitted}
 use Rattle.base.proofs.Filling.{fitted_short, fitted_room}
 use Rattle.base.proofs.Places.{sets_append, sets_placed}
 use Rattle.refusal.specs.Writing.{filling_of}
-use Rattle.refusal.specs.declared.WriteAnswer.TheVariants.{Written}
+use Rattle.std.specs.Prelude.{Ok}
 use Rattle.mop_header.specs.Header.{Head, function_byte, address_bytes, header_bytes, header_length, telegram_of}
 use Rattle.mop_header.specs.declared.Form.TheVariants.{Standard, Extended}
 
@@ -33,9 +33,9 @@ module _ (h : Head) (body out : List ℕ) where
   telegram_short l = fitted_short (telegram_of h body) out (rw (length_telegram h body) l)
 
   pub telegram_written : {n : ℕ} {first both : List ℕ} → n ≡ header_length h → header_length h + length body ≤ length out →
-      first ≡ sets out 0 (header_bytes h) → both ≡ sets first n body → filling_of (Written (n + length body)) both ≡ fitted (telegram_of h body) out
+      first ≡ sets out 0 (header_bytes h) → both ≡ sets first n body → filling_of (Ok (n + length body)) both ≡ fitted (telegram_of h body) out
   unfolding telegram_of header_length
   telegram_written e room f g =
       rw (fitted_room (telegram_of h body) out (rw (length_telegram h body) room))
       (rw (g, f, e, ← length-append (header_bytes h) body, ← sets_placed (telegram_of h body) out (rw (length_telegram h body) room))
-      (ap (λ (l : List ℕ). filling_of (Written (length (telegram_of h body))) l) (sym (sets_append out 0 (header_bytes h) body ∙ rw zero-add))))
+      (ap (λ (l : List ℕ). filling_of (Ok (length (telegram_of h body))) l) (sym (sets_append out 0 (header_bytes h) body ∙ rw zero-add))))

@@ -10,7 +10,7 @@ ghost use Rattle.mop_block.specs.Block.{rolled, first, next};
 ghost use Rattle.mop_header.specs.Header.{head, entries, head_of, beside, block_start, function_byte, header_bytes, header_length, telegram_of, mark_byte, mark_is, with_mark, mark_agrees, remarked, rolled_left, rolled_right, as_reply};
 ghost use Rattle.mop_header.specs.Private.Places.{first_place};
 
-use refusal::{Refusal, WriteAnswer};
+use refusal::Refusal;
 
 // The mark's bytes, but for the first one that may be 00.
 pub const MARK: u8 = 0xEF;
@@ -311,17 +311,17 @@ fn write_header(header: Header, block: &[u8], out: &mut [u8])
 
 // The telegram of a header, beside its entries, and a body in the first places of out; the other places keep their values.
 // Refused with 11, and out as it was: an output that is too short.
-pub fn write(header: Header, block: &[u8], body: &[u8], out: &mut [u8]) -> WriteAnswer
+pub fn write(header: Header, block: &[u8], body: &[u8], out: &mut [u8]) -> Result<usize, Refusal>
     ensures { filling_of result out.new ≡ fitted (telegram_of (head_of header block.now) body.now) out.old }
 {
     let n = header.length();
     if out.len() < n {
-        return WriteAnswer::Refused(Refusal::OutputShort);
+        return Err(Refusal::OutputShort);
     }
     if out.len() - n < body.len() {
-        return WriteAnswer::Refused(Refusal::OutputShort);
+        return Err(Refusal::OutputShort);
     }
     write_header(header, block, &mut *out);
     places::put(body, &mut *out, n);
-    WriteAnswer::Written(n + body.len())
+    Ok(n + body.len())
 }

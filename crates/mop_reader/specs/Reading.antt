@@ -1,17 +1,17 @@
 -- Reading the header of a telegram, with the refusals in their order.
 -- Assumes nothing.
-use Rattle.std.specs.Prelude.{ℕ, ◌+◌, Bool, not, ◌&&◌, ◌||◌, List, eqb, ltb, leb, length, get_or, take, drop}
+use Rattle.std.specs.Prelude.{ℕ, ◌+◌, Result, Ok, Err, Bool, not, ◌&&◌, ◌||◌, List, eqb, ltb, leb, length, get_or, take, drop}
 use Rattle.base.specs.Choice.{pick}
 use Rattle.refusal.specs.Numbers.{number_of}
+use Rattle.refusal.specs.declared.Refusal.{Refusal}
 use Rattle.mop_block.specs.Block.{stations, good_block}
 use Rattle.mop_header.specs.Header.{Head, head, head_of, block_start, function_byte, is_mark, mark_agrees}
+use Rattle.mop_header.specs.declared.Header.{Header}
 use Rattle.mop_header.specs.declared.Function.{Function}
 use Rattle.mop_header.specs.declared.Function.TheVariants.{Request, Reply}
 use Rattle.mop_header.specs.declared.Form.TheVariants.{Standard, Extended}
 use Rattle.mop_reader.specs.declared.Reader.{Reader}
 use Rattle.mop_reader.specs.declared.Reader.TheVariants.{Station, Centre}
-use Rattle.mop_reader.specs.declared.HeaderRead.{HeaderRead}
-use Rattle.mop_reader.specs.declared.HeaderRead.TheVariants.{Fine, Fault}
 
 -- what reading gives: a header without a fault, or the number of a refusal
 pub data Reading : Type 0 where
@@ -19,9 +19,9 @@ pub data Reading : Type 0 where
   faulty : ℕ → Reading
 
 -- the header that was read, beside the telegram from its block on
-abbrev pub reading_of : HeaderRead → List ℕ → Reading
-reading_of (Fine h) telegram = sound (head_of h (drop (block_start h.form) telegram))
-reading_of (Fault r) telegram = faulty (number_of r)
+abbrev pub reading_of : Result Header Refusal → List ℕ → Reading
+reading_of (Ok h) telegram = sound (head_of h (drop (block_start h.form) telegram))
+reading_of (Err r) telegram = faulty (number_of r)
 
 -- the function bytes that a reader takes: a station those of requests and replies, the centre only that of replies
 unfoldable pub allowed : Reader → ℕ → Bool

@@ -24,13 +24,6 @@ pub enum Reader {
     Centre,
 }
 
-// What reading a header gives. The header is to stand beside the telegram from its block on.
-#[derive(Clone, Copy)]
-pub enum HeaderRead {
-    Fine(Header),
-    Fault(Refusal),
-}
-
 // What a function byte that is allowed stands for.
 fn function_of(byte: u8) -> Function
     ensures { result ≡ pick (eqb byte 0xE0) Reply Request }
@@ -90,18 +83,18 @@ fn good_for(reader: Reader, block: &[u8]) -> bool
 }
 
 // A header of these parts, beside its block: 5 for the block, then 6 for the mark.
-fn judge(reader: Reader, function: Function, control: u8, form: Form, block: &[u8]) -> HeaderRead
+fn judge(reader: Reader, function: Function, control: u8, form: Form, block: &[u8]) -> Result<Header, Refusal>
     requires { length block.now ≤ 32 }
     ensures { (tg rest : List ℕ) → drop (block_start form) tg ≡ block.now ++ rest → reading_of result tg ≡ judged reader (head function control form block.now) }
 {
     if !good_for(reader, block) {
-        return HeaderRead::Fault(Refusal::Block);
+        return Err(Refusal::Block);
     }
     let header = Header::new(function, control, form, block.len() as u8);
     if !header.is_marked(block) {
-        return HeaderRead::Fault(Refusal::Mark);
+        return Err(Refusal::Mark);
     }
-    HeaderRead::Fine(header)
+    Ok(header)
 }
 
 // The form of a header, by whether its four entries are the mark.
@@ -114,19 +107,20 @@ fn form_of(extended: bool, mark: u8) -> Form
     Form::Standard
 }
 
-// The header of a telegram, or why it is refused: 12, 2, 3, if extended 2, 4, 2, then 5, 6.
-pub fn read(reader: Reader, telegram: &[u8]) -> HeaderRead
+// The header of a telegram, to stand beside the telegram from its block on; or why it is refused: 12, 2, 3, if extended 2, 4, 2,
+// then 5, 6.
+pub fn read(reader: Reader, telegram: &[u8]) -> Result<Header, Refusal>
     ensures { reading_of result telegram.now ≡ reading reader telegram.now }
 {
     if MAX_TELEGRAM < telegram.len() {
-        return HeaderRead::Fault(Refusal::TooLong);
+        return Err(Refusal::TooLong);
     }
     if telegram.len() < 6 {
-        return HeaderRead::Fault(Refusal::HeaderCut);
+        return Err(Refusal::HeaderCut);
     }
     let byte = telegram[0];
     if !is_allowed(reader, byte) {
-        return HeaderRead::Fault(Refusal::Function);
+        return Err(Refusal::Function);
     }
     let function = function_of(byte);
     let extended = is_mark(function, telegram[2], telegram[3], telegram[4], telegram[5]);
@@ -134,20 +128,20 @@ pub fn read(reader: Reader, telegram: &[u8]) -> HeaderRead
     let mut end: usize = 6;
     if extended {
         if telegram.len() < 7 {
-            return HeaderRead::Fault(Refusal::HeaderCut);
+            return Err(Refusal::HeaderCut);
         }
         let entries = telegram[6];
         let count = entries as usize;
         if count < 2 {
-            return HeaderRead::Fault(Refusal::ExtendedCount);
+            return Err(Refusal::ExtendedCount);
         }
         if MAX_ENTRIES < count {
-            return HeaderRead::Fault(Refusal::ExtendedCount);
+            return Err(Refusal::ExtendedCount);
         }
         start = 7;
         end = 7 + count;
         if telegram.len() < end {
-            return HeaderRead::Fault(Refusal::HeaderCut);
+            return Err(Refusal::HeaderCut);
         }
     }
     let form = form_of(extended, telegram[2]);

@@ -8,7 +8,7 @@ ghost use Rattle.mop_step.specs.Step.{stepping};
 ghost use Rattle.mop_station.specs.Station.{handling_of, sending, taking, hearing, handling};
 
 use mop_header::Header;
-use mop_reader::{HeaderRead, Reader};
+use mop_reader::Reader;
 use mop_step::{REPLY_BODY, StationStep};
 use refusal::Refusal;
 
@@ -87,7 +87,7 @@ pub fn handle(own: u8, registers: &mut [u16], telegram: &[u8], out: &mut [u8]) -
         return StationAnswer::Refused(Refusal::Setup);
     }
     match mop_reader::read(Reader::Station, telegram) {
-        HeaderRead::Fault(r) => StationAnswer::Refused(r),
-        HeaderRead::Fine(header) => hear(own, header, telegram, &mut *registers, &mut *out),
+        Err(r) => StationAnswer::Refused(r),
+        Ok(header) => hear(own, header, telegram, &mut *registers, &mut *out),
     }
 }

@@ -17,7 +17,7 @@ ghost use Rattle.net_dry_run.specs.DryRun.{played, outcome_of, dry_run_of, run_o
 ghost use Rattle.net_dry_run.specs.Private.Legs.{summary_from, Leads, of_summary};
 
 use mop_header::Header;
-use mop_reader::{HeaderRead, MAX_TELEGRAM, Reader};
+use mop_reader::{MAX_TELEGRAM, Reader};
 use mop_step::REPLY_BODY;
 use net_hop::{BYTES, HopAnswer, JourneyEnd, MOST_TRANSMISSIONS};
 use refusal::Refusal;
@@ -257,7 +257,7 @@ pub fn dry_run(
         return DryRunAnswer::Refused(Refusal::OutputShort);
     }
     match mop_reader::read(Reader::Station, telegram) {
-        HeaderRead::Fault(r) => DryRunAnswer::Refused(r),
-        HeaderRead::Fine(header) => play(header, telegram, addresses, &mut *tables, &mut *out),
+        Err(r) => DryRunAnswer::Refused(r),
+        Ok(header) => play(header, telegram, addresses, &mut *tables, &mut *out),
     }
 }

@@ -1,11 +1,11 @@
 -- The report: a journey played over tables end to end, and told as text.
 -- Assumes nothing.
-use Rattle.std.specs.Prelude.{ℕ, ◌≤◌, ◌≡◌, true, not, List, ltb, length}
+use Rattle.std.specs.Prelude.{ℕ, ◌≤◌, ◌≡◌, true, not, List, Result, ltb, length}
 use Rattle.base.specs.Choice.{pick}
 use Rattle.base.specs.Places.{placed}
 use Rattle.base.specs.Filling.{Given, filled, refused}
 use Rattle.refusal.specs.Writing.{given_of}
-use Rattle.refusal.specs.declared.WriteAnswer.{WriteAnswer}
+use Rattle.refusal.specs.declared.Refusal.{Refusal}
 use Rattle.mop_header.specs.Header.{Head}
 use Rattle.mop_reader.specs.Reading.{Reading, sound, faulty, reading}
 use Rattle.mop_reader.specs.declared.Reader.TheVariants.{Station}
@@ -24,7 +24,7 @@ pub record Report : Type 0 where
 abbrev pub leaves : Given → List ℕ → List ℕ → Report
 leaves g tables out = record { given = g; tables = tables; output = out }
 
-abbrev pub report_of : WriteAnswer → List ℕ → List ℕ → Report
+abbrev pub report_of : Result ℕ Refusal → List ℕ → List ℕ → Report
 report_of r tables out = leaves (given_of r) tables out
 
 -- a text in the first places of the output

@@ -18,10 +18,10 @@ ghost use Rattle.net_report.specs.Report.{leaves, report_of, report_output, tell
 ghost use Rattle.net_report.specs.Private.Legs.{most_characters, telling_from, LegBy};
 
 use mop_header::Header;
-use mop_reader::{HeaderRead, Reader};
+use mop_reader::Reader;
 use mop_step::REPLY_BODY;
 use net_hop::{HopAnswer, JourneyEnd};
-use refusal::{Refusal, WriteAnswer};
+use refusal::{Numbered, Refusal};
 
 // The places of the output that a report asks for: more than the longest text has characters.
 const REPORT_OUTPUT: usize = 6500;
@@ -249,19 +249,19 @@ fn write_journey(
 // places of out: it is the one journey of that net (`tells_the_journey`, specs/Report.antt). A net that is set up wrongly and
 // a fault of the header are told as text too; the tables are then as they were.
 // Refused with 11, and all as it was: an output of fewer than 6,500 places.
-pub fn report(telegram: &[u8], addresses: &[u8], tables: &mut [u16], out: &mut [u8]) -> WriteAnswer
+pub fn report(telegram: &[u8], addresses: &[u8], tables: &mut [u16], out: &mut [u8]) -> Result<usize, Refusal>
     ensures { report_of result tables.new out.new ≡ reporting telegram.now addresses.now tables.old out.old }
 {
     if out.len() < REPORT_OUTPUT {
-        return WriteAnswer::Refused(Refusal::OutputShort);
+        return Err(Refusal::OutputShort);
     }
     if !net_hop::is_set_up(addresses, &*tables) {
-        return WriteAnswer::Written(write_outright(Refusal::Setup, &mut *out));
+        return Ok(write_outright(Refusal::Setup, &mut *out));
     }
     match mop_reader::read(Reader::Station, telegram) {
-        HeaderRead::Fault(refusal) => WriteAnswer::Written(write_outright(refusal, &mut *out)),
-        HeaderRead::Fine(header) => {
-            WriteAnswer::Written(write_journey(
+        Err(refusal) => Ok(write_outright(refusal, &mut *out)),
+        Ok(header) => {
+            Ok(write_journey(
                 header,
                 telegram,
                 addresses,

@@ -1,63 +1,57 @@
-// The refusals of the library, each with the number that is given back, and the answer of a call that writes.
+// What every kind of refusals has: numbers that are given back; and the refusals of link, mop and net.
 #![tactic(auto)]
 
-ghost use Rattle.std.specs.Prelude.{◌≡◌};
+ghost use Rattle.std.specs.Prelude.{◌≡◌, ℕ};
 ghost use Rattle.refusal.specs.Numbers.{number_of};
+ghost use Rattle.refusal.specs.Private.Numbers.{numbers_differ};
 
-#[derive(Clone, Copy)]
+// A kind of refusals, each of which has a number of its own.
+pub trait Numbered: Copy {
+    ghost numeral: { Self → ℕ };
+
+    // The number that is given back.
+    fn number(self) -> u8
+        ensures { result ≡ numeral self };
+
+    // No two refusals have the same number.
+    ghost differ: { (a b : Self) → numeral a ≡ numeral b → a ≡ b };
+}
+
+#[derive(Clone, Copy, Debug, PartialEq, Eq)]
 pub enum Refusal {
     // The own address is not 1 to 240, the register table has the wrong length, the link state is against its buffer, a
     // sender's limits or failed attempts are wrong, or the dry run is set up wrongly.
-    Setup,
+    Setup = 1,
     // The header is cut short.
-    HeaderCut,
+    HeaderCut = 2,
     // The function byte is not allowed at this place.
-    Function,
+    Function = 3,
     // The extended count is not 2 to 32.
-    ExtendedCount,
+    ExtendedCount = 4,
     // The block or the route breaks its rule.
-    Block,
+    Block = 5,
     // The mark disagrees with the block.
-    Mark,
+    Mark = 6,
     // The body has the wrong length.
-    BodyLength,
+    BodyLength = 7,
     // There is no such register.
-    NoRegister,
+    NoRegister = 8,
     // The register takes no write.
-    NoWrite,
+    NoWrite = 9,
     // The written value is out of the register's range.
-    ValueRange,
+    ValueRange = 10,
     // The output is too short.
-    OutputShort,
+    OutputShort = 11,
     // The data or the telegram is longer than 1,024 bytes, or a run longer than 255 registers.
-    TooLong,
+    TooLong = 12,
 }
 
-impl Refusal {
-    // The number that is given back.
-    pub fn number(self) -> u8
-        ensures { result ≡ number_of self }
-    {
-        match self {
-            Refusal::Setup => 1,
-            Refusal::HeaderCut => 2,
-            Refusal::Function => 3,
-            Refusal::ExtendedCount => 4,
-            Refusal::Block => 5,
-            Refusal::Mark => 6,
-            Refusal::BodyLength => 7,
-            Refusal::NoRegister => 8,
-            Refusal::NoWrite => 9,
-            Refusal::ValueRange => 10,
-            Refusal::OutputShort => 11,
-            Refusal::TooLong => 12,
-        }
+impl Numbered for Refusal {
+    ghost numeral = { number_of };
+
+    fn number(self) -> u8 {
+        self as u8
     }
-}
 
-// What a call that writes gives: the length that it filled, or a refusal.
-#[derive(Clone, Copy)]
-pub enum WriteAnswer {
-    Written(usize),
-    Refused(Refusal),
+    ghost differ = { numbers_differ };
 }

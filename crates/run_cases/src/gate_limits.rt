@@ -4,17 +4,18 @@ use crate::{limits, parts, show};
 use gate_answers::{AnswerRead, BarrierAnswer};
 use gate_commands::{GateRegisters, OperateAnswer};
 use gate_receive::{GateAnswer, GateEvent, GateState};
-use gate_refusal::GateWritten;
+use gate_refusal::GateRefusal;
+use refusal::Numbered;
 use streams::Screen;
 
 // The answer of a call that writes, with the end of what is written, and how far the output is as before behind it.
-fn show_written(screen: &mut Screen, answer: GateWritten, out: &[u8]) {
+fn show_written(screen: &mut Screen, answer: Result<usize, GateRefusal>, out: &[u8]) {
     match answer {
-        GateWritten::Written(n) => {
+        Ok(n) => {
             show::filled(screen, out, n, 7);
             limits::show_kept(screen, out, n);
         }
-        GateWritten::Refused(r) => {
+        Err(r) => {
             show::refused(screen, r.number());
             limits::show_kept(screen, out, 0);
         }

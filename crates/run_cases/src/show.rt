@@ -3,7 +3,7 @@ use crate::parts;
 use link_receive::{Dle, LinkAnswer, LinkEvent, LinkState, Phase};
 use mop_station::StationAnswer;
 use net_hop::JourneyEnd;
-use refusal::{Refusal, WriteAnswer};
+use refusal::{Numbered, Refusal};
 use streams::Screen;
 
 pub(crate) fn text(screen: &mut Screen, s: &[u8]) {
@@ -76,13 +76,13 @@ pub(crate) fn filled(screen: &mut Screen, out: &[u8], n: usize, most: usize) {
 }
 
 // The answer of a call that writes, with the end of what is written, no more than so many bytes. Gives its length.
-pub(crate) fn written(screen: &mut Screen, a: WriteAnswer, out: &[u8], most: usize) -> usize {
+pub(crate) fn written(screen: &mut Screen, a: Result<usize, Refusal>, out: &[u8], most: usize) -> usize {
     match a {
-        WriteAnswer::Written(n) => {
+        Ok(n) => {
             filled(screen, out, n, most);
             n
         }
-        WriteAnswer::Refused(r) => {
+        Err(r) => {
             refusal(screen, r);
             0
         }

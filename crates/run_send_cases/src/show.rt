@@ -1,7 +1,7 @@
 // Numbers, bytes and answers as text on the screen.
 use crate::parts;
 use link_receive::{Dle, LinkState, Phase};
-use refusal::Refusal;
+use refusal::{Numbered, Refusal};
 use streams::Screen;
 
 pub(crate) fn text(screen: &mut Screen, s: &[u8]) {

@@ -4,7 +4,9 @@ use Rattle.mop_station.proofs.Telegrams.{not_set_up, set_up}
 use Rattle.mop_station.specs.Station.{hearing}
 use Rattle.mop_reader.proofs.ReadBack.{sound_room}
 use Rattle.mop_reader.specs.declared.Reader.TheVariants.{Station}
-use Rattle.mop_reader.specs.declared.HeaderRead.{HeaderRead}
+use Rattle.std.specs.Prelude.{Result}
+use Rattle.refusal.specs.declared.Refusal.{Refusal}
+use Rattle.mop_header.specs.declared.Header.{Header}
 use Rattle.mop_reader.specs.Reading.{reading_of}
 use mathlib.Core.Path.{sym, ◌∙◌, ap}
 use Rattle.mop_station.proofs.handle.Goals as goal
@@ -18,22 +20,22 @@ hear-requires c =
     let r = header in
     let a = r.args in
     sound_room Station a.telegram.now _
-    (sym r.read.ensures ∙ ap (λ (x : HeaderRead). reading_of x a.telegram.now) header.in-Fine.is)
+    (sym r.read.ensures ∙ ap (λ (x : Result Header Refusal). reading_of x a.telegram.now) header.in-Ok.is)
 
-pub returns-in-Fault : goal.returns-in-Fault
+pub returns-in-Err : goal.returns-in-Err
 unfolding hearing
-returns-in-Fault c =
+returns-in-Err c =
     let r = c in
     let a = r.args in
     let set = sym r.is_station.ensures ∙ r.if-not-is_station.false in
-    let read = sym (ap (λ (x : HeaderRead). reading_of x a.telegram.now) c.in-Fault.is) ∙ r.read.ensures in
+    let read = sym (ap (λ (x : Result Header Refusal). reading_of x a.telegram.now) c.in-Err.is) ∙ r.read.ensures in
     sym (set_up _ _ _ _ set read)
 
-pub returns-in-Fine : goal.returns-in-Fine
-returns-in-Fine c =
+pub returns-in-Ok : goal.returns-in-Ok
+returns-in-Ok c =
     let header = c in
     let r = header in
     let a = r.args in
     let set = sym r.is_station.ensures ∙ r.if-not-is_station.false in
-    let read = sym (ap (λ (x : HeaderRead). reading_of x a.telegram.now) header.in-Fine.is) ∙ r.read.ensures in
+    let read = sym (ap (λ (x : Result Header Refusal). reading_of x a.telegram.now) header.in-Ok.is) ∙ r.read.ensures in
     c.hear.ensures ∙ sym (set_up _ _ _ _ set read)

@@ -3,7 +3,9 @@
 use Rattle.net_dry_run.proofs.DryRuns.{not_set_up, too_long, output_short, run_by}
 use Rattle.net_dry_run.specs.DryRun.{run_of}
 use Rattle.net_hop.specs.Tables.{set_up}
-use Rattle.mop_reader.specs.declared.HeaderRead.{HeaderRead}
+use Rattle.std.specs.Prelude.{Result}
+use Rattle.refusal.specs.declared.Refusal.{Refusal}
+use Rattle.mop_header.specs.declared.Header.{Header}
 use Rattle.mop_reader.specs.Reading.{reading_of}
 use mathlib.Core.Path.{◌≡◌, sym, ◌∙◌, ap}
 use mathlib.Core.Bool.{true}
@@ -28,23 +30,23 @@ play-requires c =
     let h = c in
     let r = h in
     let a = r.args in
-    let read = sym r.read.ensures ∙ ap (λ (x : HeaderRead). reading_of x a.telegram.now) h.in-Fine.is in
+    let read = sym r.read.ensures ∙ ap (λ (x : Result Header Refusal). reading_of x a.telegram.now) h.in-Ok.is in
     record { telegram_value = read; tables_value = is_set (goal.at.play-requires r).Else-not-is_set_up; run_output_in_bounds = r.if-out-lt-RUN_OUTPUT.false }
 
-pub returns-in-Fault : goal.returns-in-Fault
+pub returns-in-Err : goal.returns-in-Err
 unfolding run_of
-returns-in-Fault c =
+returns-in-Err c =
     let r = c in
     let a = r.args in
-    let read = sym (ap (λ (x : HeaderRead). reading_of x a.telegram.now) c.in-Fault.is) ∙ r.read.ensures in
-    sym (run_by _ _ _ _ (is_set (goal.at.returns-in-Fault r).Else-not-is_set_up) r.if-telegram-gt-MAX_TELEGRAM.false r.if-out-lt-RUN_OUTPUT.false read)
+    let read = sym (ap (λ (x : Result Header Refusal). reading_of x a.telegram.now) c.in-Err.is) ∙ r.read.ensures in
+    sym (run_by _ _ _ _ (is_set (goal.at.returns-in-Err r).Else-not-is_set_up) r.if-telegram-gt-MAX_TELEGRAM.false r.if-out-lt-RUN_OUTPUT.false read)
 
-pub returns-in-Fine : goal.returns-in-Fine
+pub returns-in-Ok : goal.returns-in-Ok
 unfolding run_of
-returns-in-Fine c =
+returns-in-Ok c =
     let h = c in
     let r = h in
     let a = r.args in
-    let read = sym (ap (λ (x : HeaderRead). reading_of x a.telegram.now) h.in-Fine.is) ∙ r.read.ensures in
+    let read = sym (ap (λ (x : Result Header Refusal). reading_of x a.telegram.now) h.in-Ok.is) ∙ r.read.ensures in
     c.play.ensures
-    ∙ sym (run_by _ _ _ _ (is_set (goal.at.returns-in-Fine r).Else-not-is_set_up) r.if-telegram-gt-MAX_TELEGRAM.false r.if-out-lt-RUN_OUTPUT.false read)
+    ∙ sym (run_by _ _ _ _ (is_set (goal.at.returns-in-Ok r).Else-not-is_set_up) r.if-telegram-gt-MAX_TELEGRAM.false r.if-out-lt-RUN_OUTPUT.false read)
