@@ -1,23 +1,19 @@
--- Writing two-byte numbers as bytes: one more of them, and the last that has a place.
+-- Writing two-byte numbers as bytes: one more of them.
 -- Assumes nothing.
-use mathlib.Core.Path.{◌≡◌, sym, ◌∙◌}
+use mathlib.Core.Path.{◌≡◌}
 use mathlib.Core.List.{List, [], ◌∷◌}
-use Prim.Native.Nat.{ℕ, ◌+◌, ◌≤◌, ◌<◌}
+use Prim.Native.Nat.{ℕ, ◌+◌, ◌/◌, ◌%◌, ◌^◌, ◌<◌}
 use native.Mathlib.Numerals.{add-one, add-two}
-use lib.ListN.{length, get_or, drop, set}
-use lib.Seq.{sets, drop-cons, length-sets}
-use Rattle.base.specs.Words.{high_byte, low_byte, bytes_of}
-use Rattle.places.proofs.Copies.{sets_beyond}
+use native.Mathlib.Omega.{arith}
+use lib.ListN.{length, get_or, drop}
+use lib.Seq.{sets, drop-cons}
+use Rattle.base.specs.Words.{bytes_of}
 
-module _ (numbers out : List ℕ) (place i : ℕ) {whole : List ℕ} (h : i < length numbers) (k : sets out place (bytes_of (drop i numbers)) ≡ whole) where
-  pub put_step : sets (set (set out place (high_byte (get_or numbers i 0))) (place + 1) (low_byte (get_or numbers i 0))) (place + 2) (bytes_of (drop (i + 1) numbers)) ≡ whole
+module _ (numbers out : List ℕ) (place i : ℕ) {whole : List ℕ} (h : i < length numbers) (fits : get_or numbers i 0 < 2 ^ 16) where
+  pub put_step : sets out place (bytes_of (drop i numbers)) ≡ whole → {pair new : List ℕ} →
+      pair ≡ get_or numbers i 0 / 256 % 256 ∷ get_or numbers i 0 % 256 ∷ [] → new ≡ sets out place pair → {next : ℕ} → next ≡ place + 2 →
+      sets new next (bytes_of (drop (i + 1) numbers)) ≡ whole
   unfolding bytes_of
-  put_step = rw (add-one place, add-two place, add-one i) (rw (drop-cons numbers i 0 h) at k)
-
-  -- behind these two bytes no place is left
-  pub put_last : length out ≤ place + 2 → sets out place (high_byte (get_or numbers i 0) ∷ low_byte (get_or numbers i 0) ∷ []) ≡ whole
-  unfolding bytes_of
-  put_last full =
-      let n = get_or numbers i 0 in
-      let pair = sets out place (high_byte n ∷ low_byte n ∷ []) in
-      sym (sets_beyond pair (place + 2) (bytes_of (drop (i + 1) numbers)) (rw (length-sets out place (high_byte n ∷ low_byte n ∷ [])) full)) ∙ rw (add-two place, add-one i) (rw (drop-cons numbers i 0 h) at k)
+  put_step k e f g =
+      let high : get_or numbers i 0 / 256 % 256 ≡ get_or numbers i 0 / 256 = omega arith in
+      rw (f, e, high, g, add-two place, add-one i) (rw (drop-cons numbers i 0 h) at k)

@@ -9,7 +9,7 @@ ghost use Rattle.base.specs.Words.{word, words_of, bytes_of};
 pub fn word_of(high: u8, low: u8) -> u16
     ensures { result ≡ word high low }
 {
-    high as u16 * 256 + low as u16
+    u16::from_be_bytes([high, low])
 }
 
 // Writes the bytes of numbers to the places of out from `at` on. Bytes for which there is no place are left out.
@@ -19,20 +19,8 @@ pub fn put_words(numbers: &[u16], out: &mut [u8], at: usize)
     if out.len() < at {
         return;
     }
-    let mut place = at;
-    let mut i: usize = 0;
-    while i < numbers.len() {
-        let n = numbers[i];
-        let high = (n / 256) as u8;
-        let low = (n % 256) as u8;
-        i += 1;
-        if out.len() - place < 2 {
-            places::put(&[high, low], &mut *out, place);
-            return;
-        }
-        out[place] = high;
-        out[place + 1] = low;
-        place += 2;
+    for (i, n) in numbers.iter().enumerate() {
+        places::put(&n.to_be_bytes(), out, at + 2 * i);
     }
 }
 
@@ -41,14 +29,7 @@ pub fn put_words(numbers: &[u16], out: &mut [u8], at: usize)
 pub fn store_words(bytes: &[u8], table: &mut [u16], at: usize)
     ensures { table.new ≡ sets table.old at (words_of bytes.now) }
 {
-    let mut place = at;
-    let mut i: usize = 0;
-    while 1 < bytes.len() - i {
-        if table.len() <= place {
-            return;
-        }
-        table[place] = word_of(bytes[i], bytes[i + 1]);
-        place += 1;
-        i += 2;
+    for (place, pair) in (at..table.len()).zip(bytes.chunks_exact(2)) {
+        table[place] = word_of(pair[0], pair[1]);
     }
 }
