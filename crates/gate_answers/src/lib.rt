@@ -9,6 +9,7 @@ ghost use Rattle.gate_answers.specs.Answers.{is_position, answer_bytes, answer_w
 ghost use Rattle.gate_answers.specs.declared.BarrierAnswer.TheVariants.{Count, Position};
 
 use gate_refusal::GateRefusal;
+use signed::TwosComplement;
 
 // The first bytes of the answers.
 pub const ACK: u8 = 0x01;
@@ -70,7 +71,7 @@ fn write_count(z: i32, out: &mut [u8]) -> Result<usize, GateRefusal>
     if out.len() < 5 {
         return Err(GateRefusal::OutputShort);
     }
-    let four = signed::four_bytes(signed::unsigned32(z));
+    let four = signed::four_bytes(z.to_bits());
     out[0] = COUNT;
     places::put(&four, &mut *out, 1);
     Ok(5)
@@ -87,7 +88,7 @@ fn write_position(z: i8, out: &mut [u8]) -> Result<usize, GateRefusal>
         return Err(GateRefusal::OutputShort);
     }
     out[0] = POSITION;
-    out[1] = signed::unsigned8(z);
+    out[1] = z.to_bits();
     Ok(2)
 }
 
@@ -124,7 +125,7 @@ fn read_count(src: &[u8]) -> AnswerRead
         return AnswerRead::Refused(GateRefusal::Length);
     }
     let n = signed::of_four([src[1], src[2], src[3], src[4]]);
-    AnswerRead::Answer(BarrierAnswer::Count(signed::signed32(n)))
+    AnswerRead::Answer(BarrierAnswer::Count(i32::from_bits(n)))
 }
 
 // The answer with a position.
@@ -134,7 +135,7 @@ fn read_position(src: &[u8]) -> AnswerRead
     if src.len() != 2 {
         return AnswerRead::Refused(GateRefusal::Length);
     }
-    let z = signed::signed8(src[1]);
+    let z = i8::from_bits(src[1]);
     if !is_position(z as i32) {
         return AnswerRead::Refused(GateRefusal::Position);
     }

@@ -1,70 +1,91 @@
 // Signed numbers in two's complement, and numbers of 32 bits as four bytes, lowest first.
 #![tactic(auto)]
 
-ghost use Rattle.std.specs.Prelude.{◌≡◌};
+ghost use Rattle.std.specs.Prelude.{◌≡◌, ◌≤◌, ℕ, ℤ};
 ghost use Rattle.signed.specs.Signed.{top8, top32, bits_of, signed_of, four_bytes, of_four};
+ghost use Rattle.signed.specs.Inverse.{FitsTop};
+ghost use Rattle.signed.specs.Private.Laws.{signed_bits, bits_signed};
 
-// The byte that stands for a signed number.
-pub fn unsigned8(z: i8) -> u8
-    ensures { result ≡ bits_of top8 z }
-{
-    if z < 0 {
-        let below = -1 - z;
-        return 0xFF - below as u8;
-    }
-    z as u8
+// A width's numbers with a sign, and those without one that stand for them in two's complement.
+pub trait TwosComplement {
+    type Bits;
+
+    // The largest number without a sign.
+    ghost top: { ℕ };
+
+    // What values of the two types are.
+    ghost signed: { Self → ℤ };
+
+    ghost unsigned: { Self.Bits → ℕ };
+
+    // The number without a sign that stands for this one.
+    fn to_bits(self) -> Self::Bits
+        ensures { unsigned result ≡ bits_of top (signed self) };
+
+    // The number that one without a sign stands for.
+    fn from_bits(bits: Self::Bits) -> Self
+        ensures { signed result ≡ signed_of top (unsigned bits) };
+
+    // There and back: a number of the width, and one without a sign.
+    ghost signed_back: { (z : Self) → FitsTop top (signed z) → signed_of top (bits_of top (signed z)) ≡ signed z };
+
+    ghost bits_back: { (n : Self.Bits) → unsigned n ≤ top → bits_of top (signed_of top (unsigned n)) ≡ unsigned n };
 }
 
-// The signed number that a byte stands for.
-pub fn signed8(n: u8) -> i8
-    ensures { result ≡ signed_of top8 n }
-{
-    if n <= 0x7F {
-        return n as i8;
+impl TwosComplement for i8 {
+    type Bits = u8;
+
+    ghost top = { top8 };
+
+    ghost signed = { λ z. z };
+
+    ghost unsigned = { λ n. n };
+
+    fn to_bits(self) -> u8 {
+        self.cast_unsigned()
     }
-    let below = 0xFF - n;
-    -1 - below as i8
+
+    fn from_bits(bits: u8) -> i8 {
+        bits.cast_signed()
+    }
+
+    ghost signed_back = { signed_bits top8 };
+
+    ghost bits_back = { bits_signed top8 };
 }
 
-// The number of 32 bits that stands for a signed number.
-pub fn unsigned32(z: i32) -> u32
-    ensures { result ≡ bits_of top32 z }
-{
-    if z < 0 {
-        let below = -1 - z;
-        return 0xFFFF_FFFF - below as u32;
-    }
-    z as u32
-}
+impl TwosComplement for i32 {
+    type Bits = u32;
 
-// The signed number that a number of 32 bits stands for.
-pub fn signed32(n: u32) -> i32
-    ensures { result ≡ signed_of top32 n }
-{
-    if n <= 0x7FFF_FFFF {
-        return n as i32;
+    ghost top = { top32 };
+
+    ghost signed = { λ z. z };
+
+    ghost unsigned = { λ n. n };
+
+    fn to_bits(self) -> u32 {
+        self.cast_unsigned()
     }
-    let below = 0xFFFF_FFFF - n;
-    -1 - below as i32
+
+    fn from_bits(bits: u32) -> i32 {
+        bits.cast_signed()
+    }
+
+    ghost signed_back = { signed_bits top32 };
+
+    ghost bits_back = { bits_signed top32 };
 }
 
 // The four bytes of a number, lowest first.
 pub fn four_bytes(n: u32) -> [u8; 4]
     ensures { result ≡ four_bytes n }
 {
-    let first = (n % 0x100) as u8;
-    let second = (n / 0x100 % 0x100) as u8;
-    let third = (n / 0x1_0000 % 0x100) as u8;
-    let fourth = (n / 0x100_0000 % 0x100) as u8;
-    [first, second, third, fourth]
+    n.to_le_bytes()
 }
 
 // The number of four bytes, lowest first.
 pub fn of_four(bytes: [u8; 4]) -> u32
     ensures { result ≡ of_four bytes }
 {
-    bytes[0] as u32
-        + 0x100 * bytes[1] as u32
-        + 0x1_0000 * bytes[2] as u32
-        + 0x100_0000 * bytes[3] as u32
+    u32::from_le_bytes(bytes)
 }

@@ -19,6 +19,6 @@ returns-then-src-ne5 c =
 pub returns : goal.returns
 returns c =
     let test = c in
-    let z = c.signed32 in
+    let z = c.from_bits in
     count_read test.args.src.now (omega arith) c.of_four-n.ensures
     (to_z-of_z {w = w32} {z = z.result} (record { sfits = z.type_inv }) ∙ z.ensures)

@@ -19,5 +19,5 @@ returns c =
     let bytes = copying in
     let test = bytes in
     let s = test in
-    count_room s.args.z s.args.out.now (bytes.unsigned32.ensures ∙ ap (bits_of top32) (to_z-of_z s.ranges.z))
+    count_room s.args.z s.args.out.now (bytes.to_bits.ensures ∙ ap (bits_of top32) (to_z-of_z s.ranges.z))
     bytes.four_bytes-four.ensures copying.put.ensures test.if-out-lt5.false

@@ -38,4 +38,4 @@ returns c =
     let test = c in
     let s = test in
     position_room s.args.z s.args.out.now (good (goal.at.returns test).After-is_position c.if-not-is_position.false)
-    (c.unsigned8.ensures ∙ ap (bits_of top8) (to_z-of_z s.ranges.z)) (omega arith)
+    (c.to_bits.ensures ∙ ap (bits_of top8) (to_z-of_z s.ranges.z)) (omega arith)

@@ -1,0 +1,11 @@
+-- `to_bits` at `i32`: the library's cast.
+-- Assumes nothing.
+use mathlib.Core.Path.{ap, ◌∙◌}
+use mir.Syntax.{w32}
+use mir.Facts.{to_z-of_z}
+use Rattle.signed.specs.Signed.{top32, bits_of}
+use Rattle.signed.proofs.Casts.{cast_bits}
+use Rattle.signed.proofs.I32TwosComplement.to_bits.Goals as goal
+
+pub returns : goal.returns
+returns c = c.cast_unsigned.ensures ∙ cast_bits w32 _ ∙ ap (bits_of top32) (to_z-of_z c.ranges.self)
