@@ -1,6 +1,6 @@
 -- The check with the polynomial 1021: over no byte, one more, and two lists end to end; and it has 16 bits.
 -- Assumes nothing.
-use mathlib.Core.Path.{◌≡◌, refl}
+use mathlib.Core.Path.{◌≡◌, refl, ◌∙◌}
 use mathlib.Core.Bool.{Bool, true, false}
 use mathlib.Core.List.{List, [], ◌∷◌, ◌++◌}
 use Prim.Native.Nat.{ℕ, ◌*◌, ◌%◌, ◌<◌}
@@ -24,6 +24,9 @@ ccitt_cons c b bs = refl
 pub ccitt_append : (c : ℕ) (xs ys : List ℕ) → ccitt_over c (xs ++ ys) ≡ ccitt_over (ccitt_over c xs) ys
 unfolding ccitt_over
 ccitt_append c xs ys = run_append ccitt_byte c xs ys
+
+pub ccitt_push : (c : ℕ) (bs : List ℕ) (b : ℕ) → ccitt_over c (bs ++ b ∷ []) ≡ ccitt_byte (ccitt_over c bs) b
+ccitt_push c bs b = ccitt_append c bs (b ∷ []) ∙ ccitt_cons (ccitt_over c bs) b [] ∙ ccitt_none _
 
 chosen_bound : (t : Bool) (n : ℕ) → n < 65536 → pick t (bit_xor n 0x1021) n < 65536
 chosen_bound true n h = xor_lt 16 n 0x1021 h (omega arith)

@@ -1,12 +1,9 @@
--- What every check by a polynomial shares: one turn and the end of each loop, bytes in two parts, and a bound.
+-- What every check by a polynomial shares: one turn and the end of the loop over the bits, bytes in two parts, and a bound.
 -- Assumes nothing.
 use mathlib.Core.Path.{◌≡◌, refl}
 use mathlib.Core.List.{List, [], ◌∷◌, ◌++◌}
 use Prim.Native.Nat.{ℕ, zero, suc, ◌+◌, ◌-◌, ◌<◌, ◌≤◌}
-use native.Mathlib.Numerals.{add-one}
 use native.Mathlib.Omega.{arith}
-use lib.ListN.{length, drop, get_or, drop_of_length-le}
-use lib.Seq.{drop-cons}
 use Rattle.crc16.specs.Check.{steps, run_over}
 
 -- n steps, of which i are done
@@ -20,16 +17,6 @@ module _ (step : ℕ → ℕ) (n i c : ℕ) where
   steps_end h =
       let e : n - i ≡ 0 = omega arith in
       rw e
-
--- the bytes, of which those before place i are done
-module _ (byte : ℕ → ℕ → ℕ) (bytes : List ℕ) (i c : ℕ) where
-  pub run_turn : i < length bytes → run_over byte c (drop i bytes) ≡ run_over byte (byte c (get_or bytes i 0)) (drop (i + 1) bytes)
-  unfolding run_over
-  run_turn h = rw (add-one, drop-cons bytes i 0)
-
-  pub run_end : length bytes ≤ i → run_over byte c (drop i bytes) ≡ c
-  unfolding run_over
-  run_end h = rw (drop_of_length-le bytes h)
 
 -- the check over two lists end to end goes on where that over the first ends
 pub run_append : (byte : ℕ → ℕ → ℕ) (c : ℕ) (xs ys : List ℕ) → run_over byte c (xs ++ ys) ≡ run_over byte (run_over byte c xs) ys

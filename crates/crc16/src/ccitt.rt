@@ -22,11 +22,9 @@ fn bit(check: u16) -> u16
 pub fn byte(check: u16, b: u8) -> u16
     ensures { result ≡ ccitt_byte check b }
 {
-    let mut r = check ^ (b as u16) * 256;
-    let mut i: usize = 0;
-    while i < 8 {
+    let mut r = check ^ (u16::from(b) << 8);
+    for _ in 0..u8::BITS {
         r = bit(r);
-        i += 1;
     }
     r
 }
@@ -35,11 +33,5 @@ pub fn byte(check: u16, b: u8) -> u16
 pub fn over(check: u16, bytes: &[u8]) -> u16
     ensures { result ≡ ccitt_over check bytes.now }
 {
-    let mut r = check;
-    let mut i: usize = 0;
-    while i < bytes.len() {
-        r = byte(r, bytes[i]);
-        i += 1;
-    }
-    r
+    bytes.iter().fold(check, |r, &b| byte(r, b))
 }

@@ -1,22 +1,17 @@
--- `over`: the check over the bytes that are left, from the running value on, is the whole. What is left falls.
+-- `over`: the check over the bytes so far, and one byte more.
 -- Assumes nothing.
-use mathlib.Core.Path.{refl, sym, ◌∙◌}
-use native.Mathlib.Omega.{arith}
-use Rattle.crc16.specs.Ccitt.{ccitt_byte, ccitt_over}
-use Rattle.crc16.proofs.Check.{run_turn, run_end}
+use mathlib.Core.Path.{◌≡◌, subst, sym}
+use mathlib.Core.List.{List}
+use borrow.Author.Rules.{rules}
+use Prim.Native.Nat.{ℕ}
+use Rattle.std.proofs.lemmas.Fn.{fold_over, slice_gives, fronts}
+use Rattle.crc16.specs.Ccitt.{ccitt_over}
+use Rattle.crc16.proofs.CcittCheck.{ccitt_none, ccitt_push}
 use Rattle.crc16.proofs.ccitt.over.Goals as goal
-
-pub loop-i-init : goal.loop-i-init
-unfolding ccitt_over
-loop-i-init c = (omega arith, refl)
-
-pub loop-i-preserved : goal.loop-i-preserved
-loop-i-preserved c =
-    let v = c.loop-i in
-    let bytes = c.args.bytes.now in
-    (omega arith, rw c.byte-r.ensures (sym (run_turn ccitt_byte bytes v.i v.r (omega arith)) ∙ v.invariant.1))
 
 pub returns : goal.returns
 returns c =
-    let v = c.loop-i in
-    sym (run_end ccitt_byte c.args.bytes.now v.i v.r (omega arith)) ∙ v.invariant.1
+    let check = c.args.check in
+    subst (λ (l : List ℕ). c.fold.result ≡ ccitt_over check l) c.iter.ensures.rest
+    (fold_over fronts (λ y. y.now) _ (λ ys r. r ≡ ccitt_over check ys) _ (λ ys a x b f' j k. rw (ccitt_push check ys x.now, ← j) (search rules))
+    _ _ _ _ (slice_gives c.iter.result) (sym (ccitt_none check)) c.fold.ensures.ran)
