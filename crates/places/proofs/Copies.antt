@@ -1,15 +1,13 @@
 -- Runs of stores: one more of them, and those that have no place.
 -- Assumes nothing.
-use mathlib.Core.Path.{◌≡◌, refl, sym, ◌∙◌, ap}
-use mathlib.Core.List.{List, [], ◌∷◌, append_assoc}
+use mathlib.Core.Path.{◌≡◌, refl, ap}
+use mathlib.Core.List.{List, [], ◌∷◌}
 use Prim.Native.Nat.{ℕ, zero, suc, ◌+◌, ◌≤◌, ◌<◌}
 use native.Mathlib.Nat.{add-suc}
 use native.Mathlib.Numerals.{add-one}
 use native.Mathlib.Omega.{arith}
-use borrow.Rule.Slice.PartMut.{put_mid}
-use lib.ListN.{length, get_or, take, drop, set, take-append-drop, length-drop}
-use lib.Seq.{sets, sets-eq, drop-cons, drop-drop, length-sets, length-take-le}
-use Rattle.base.proofs.Places.{sets_append}
+use lib.ListN.{length, get_or, drop, set}
+use lib.Seq.{sets, drop-cons}
 
 module _ (bytes out : List ℕ) (at i : ℕ) {whole : List ℕ} where
   pub copy_step : i < length bytes → sets out (at + i) (drop i bytes) ≡ whole →
@@ -26,23 +24,7 @@ pub sets_beyond : (l : List ℕ) (i : ℕ) (vs : List ℕ) → length l ≤ i �
 sets_beyond l i [] h = refl
 sets_beyond l i (v ∷ vs) h = rw (set_beyond l i v h) (sets_beyond l (suc i) vs (omega arith))
 
--- the same of stores that may be none
-sets_left : (l : List ℕ) (i : ℕ) (vs : List ℕ) → (0 < length vs → length l ≤ i) → sets l i vs ≡ l
-sets_left l i [] h = refl
-sets_left l i (v ∷ vs) h = sets_beyond l i (v ∷ vs) (h (omega arith))
-
--- so only as many are made as there are places, and they replace a part of the list
-module _ (l : List ℕ) (i : ℕ) (vs : List ℕ) {n : ℕ} (h : n ≤ length vs) where
-  sets_room : (n < length vs → length l ≤ i + n) → sets l i (take n vs) ≡ sets l i vs
-  sets_room full =
-      let here : length (take n vs) ≡ n = length-take-le n vs h in
-      let all : sets l i vs ≡ sets (sets l i (take n vs)) (i + length (take n vs)) (drop n vs) =
-      ap (sets l i) (sym (take-append-drop n vs)) ∙ sets_append l i (take n vs) (drop n vs) in
-      sym (all ∙ sets_left (sets l i (take n vs)) (i + length (take n vs)) (drop n vs)
-      (λ some. omega (arith, length-drop n vs, length-sets l i (take n vs), full)))
-
-  pub sets_part : {k : ℕ} {new : List ℕ} → new ≡ take n vs → k ≡ n → i + n ≤ length l → (n < length vs → length l ≤ i + n) →
-      put_mid i k l new ≡ sets l i vs
-  sets_part e f g full =
-      let here : length (take n vs) ≡ n = length-take-le n vs h in
-      rw (e, f, drop-drop) (sym (simp (here, append_assoc) at (sets-eq (take n vs) l i (omega arith))) ∙ sets_room full)
+-- no store
+pub sets_none : (l : List ℕ) (i : ℕ) (vs : List ℕ) → length vs ≡ 0 → sets l i vs ≡ l
+sets_none l i [] e = refl
+sets_none l i (v ∷ vs) e = absurd (omega arith)

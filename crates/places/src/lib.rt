@@ -8,9 +8,8 @@ ghost use Rattle.std.proofs.lemmas.List.Edits.{sets};
 pub fn put(bytes: &[u8], out: &mut [u8], at: usize)
     ensures { out.new ≡ sets out.old at bytes.now }
 {
-    if out.len() < at {
-        return;
+    // By `copy_from_slice` the archive for C would need memmove too.
+    for (place, &b) in (at..out.len()).zip(bytes) {
+        out[place] = b;
     }
-    let n = bytes.len().min(out.len() - at);
-    out[at..at + n].copy_from_slice(&bytes[..n]);
 }

@@ -1,16 +1,18 @@
--- `put`: as many bytes are copied as there are places.
+-- `put`: at the end there is no place left, or no byte.
 -- Assumes nothing.
-use mathlib.Core.Path.{sym}
+use mathlib.Core.Path.{sym, ◌∙◌}
+use mathlib.Core.Logic.{inl, inr}
 use native.Mathlib.Omega.{arith}
-use Rattle.places.proofs.Copies.{sets_beyond, sets_part}
+use Rattle.std.specs.Slice.Iter.{iter_rest}
+use Rattle.places.proofs.Copies.{sets_beyond, sets_none}
 use Rattle.places.proofs.put.Goals as goal
-
-pub returns-then-out-at : goal.returns-then-out-at
-returns-then-out-at c =
-    let a = c.args in
-    sym (sets_beyond a.out.now a.at a.bytes.now (omega arith))
 
 pub returns : goal.returns
 returns c =
-    let a = c.args in
-    sets_part a.out.now a.at a.bytes.now (omega arith) c.copy_from_slice.ensures.after (omega arith) (omega arith) (λ cut. omega arith)
+    let v = c.loop-place in
+    let start = v.place-iterator.a.start in
+    let left = iter_rest v.place-iterator.b in
+    elim c.in-None.ensures.steps [
+      | inl step ↦ sym (sets_beyond v.out start left (omega (arith, step.1))) ∙ v.invariant.1
+      | inr step ↦ sym (sets_none v.out start left step.1.0) ∙ v.invariant.1
+    ]
