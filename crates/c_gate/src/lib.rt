@@ -13,7 +13,7 @@ ghost use Rattle.c_gate.specs.Bus.{write_call, state_words, state_of, state_at, 
 ghost use Rattle.c_gate.specs.Commands.{is_bits, bits_at, bit_numbers, registers_at, of_verdict, operated, operated_by, operate_call, write_command_call};
 ghost use Rattle.c_gate.specs.Answers.{answer_at, write_answer_call, kind_of, number_in, answer_told, read_answer_call};
 
-use gate_answers::{ACK, AnswerRead, BUSY, BarrierAnswer, COUNT, NAK, POSITION, SYN};
+use gate_answers::{ACK, BUSY, BarrierAnswer, COUNT, NAK, POSITION, SYN};
 use gate_commands::{COMMANDS, GateRegisters, OperateAnswer};
 use gate_receive::{GateAnswer, GateEvent, GateState};
 use gate_refusal::GateRefusal;
@@ -230,14 +230,14 @@ fn event_at(n: u32) -> GateEvent
 }
 
 // The answer to an event.
-fn of_answer(answer: GateAnswer) -> u64
+fn of_answer(answer: Result<GateAnswer, GateRefusal>) -> u64
     ensures { result ≡ of_response (response_of answer) }
 {
     match answer {
-        GateAnswer::Nothing => 0,
-        GateAnswer::Telegram { source, size } => 65536 + 256 * source as u64 + size as u64,
-        GateAnswer::Token { source } => 131072 + source as u64,
-        GateAnswer::Refused(r) => c_answer::refused(r),
+        Ok(GateAnswer::Nothing) => 0,
+        Ok(GateAnswer::Telegram { source, size }) => 65536 + 256 * source as u64 + size as u64,
+        Ok(GateAnswer::Token { source }) => 131072 + source as u64,
+        Err(r) => c_answer::refused(r),
     }
 }
 
@@ -322,13 +322,13 @@ fn put_bits(bits: [bool; 10], words: &mut [u8])
 }
 
 // The answer of an operating command: 1 for ack, 2 for nak.
-fn of_verdict(answer: OperateAnswer) -> u64
+fn of_verdict(answer: Result<OperateAnswer, GateRefusal>) -> u64
     ensures { result ≡ of_verdict (verdict_of answer) }
 {
     match answer {
-        OperateAnswer::Ack => 1,
-        OperateAnswer::Nak => 2,
-        OperateAnswer::Refused(r) => c_answer::refused(r),
+        Ok(OperateAnswer::Ack) => 1,
+        Ok(OperateAnswer::Nak) => 2,
+        Err(r) => c_answer::refused(r),
     }
 }
 
@@ -375,38 +375,38 @@ pub fn hanraquin_gate_write_command(command: u8, function: u8, out: &mut [u8]) -
 }
 
 // The position with a number, which is judged before it is narrowed.
-fn position_at(number: i32) -> AnswerRead
+fn position_at(number: i32) -> Result<BarrierAnswer, GateRefusal>
     ensures { reading_of result ≡ position_at number }
 {
     if !gate_answers::is_position(number) {
-        return AnswerRead::Refused(GateRefusal::Position);
+        return Err(GateRefusal::Position);
     }
-    AnswerRead::Answer(BarrierAnswer::Position(number as i8))
+    Ok(BarrierAnswer::Position(number as i8))
 }
 
 // The answer with a kind and a number.
-fn answer_at(kind: u8, number: i32) -> AnswerRead
+fn answer_at(kind: u8, number: i32) -> Result<BarrierAnswer, GateRefusal>
     ensures { reading_of result ≡ answer_at kind number }
 {
     if kind == ACK {
-        return AnswerRead::Answer(BarrierAnswer::Ack);
+        return Ok(BarrierAnswer::Ack);
     }
     if kind == NAK {
-        return AnswerRead::Answer(BarrierAnswer::Nak);
+        return Ok(BarrierAnswer::Nak);
     }
     if kind == BUSY {
-        return AnswerRead::Answer(BarrierAnswer::Busy);
+        return Ok(BarrierAnswer::Busy);
     }
     if kind == SYN {
-        return AnswerRead::Answer(BarrierAnswer::Syn);
+        return Ok(BarrierAnswer::Syn);
     }
     if kind == COUNT {
-        return AnswerRead::Answer(BarrierAnswer::Count(number));
+        return Ok(BarrierAnswer::Count(number));
     }
     if kind == POSITION {
         return position_at(number);
     }
-    AnswerRead::Refused(GateRefusal::Kind)
+    Err(GateRefusal::Kind)
 }
 
 // The answer with this kind, its first byte, and this number: gate_answers::write_answer. The value is its length.
@@ -415,8 +415,8 @@ pub fn hanraquin_gate_write_answer(kind: u8, number: i32, out: &mut [u8]) -> u64
     ensures { written result out.new ≡ write_answer_call kind number out.old }
 {
     match answer_at(kind, number) {
-        AnswerRead::Answer(answer) => c_answer::of_writing(gate_answers::write_answer(answer, &mut *out)),
-        AnswerRead::Refused(r) => c_answer::refused(r),
+        Ok(answer) => c_answer::of_writing(gate_answers::write_answer(answer, &mut *out)),
+        Err(r) => c_answer::refused(r),
     }
 }
 
@@ -455,11 +455,11 @@ pub fn hanraquin_gate_read_answer(src: &[u8], number: &mut [i32]) -> u64
         return c_answer::refused(GateRefusal::Setup);
     }
     match gate_answers::read_answer(src) {
-        AnswerRead::Answer(answer) => {
+        Ok(answer) => {
             let z = number_of(answer);
             number[0] = z;
             kind_of(answer)
         }
-        AnswerRead::Refused(r) => c_answer::refused(r),
+        Err(r) => c_answer::refused(r),
     }
 }

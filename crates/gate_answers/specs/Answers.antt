@@ -1,14 +1,13 @@
 -- The answers of a barrier: their bytes, and what reading and writing them gives.
 -- Assumes nothing.
-use Rattle.std.specs.Prelude.{ℕ, zero, suc, Bool, true, false, List, [], ◌∷◌, ℤ, pos, negsuc, eqb, leb, length, get_or, drop}
+use Rattle.std.specs.Prelude.{ℕ, zero, suc, Bool, true, false, List, [], ◌∷◌, ℤ, pos, negsuc, Result, Ok, Err, eqb, leb, length, get_or, drop}
 use Rattle.base.specs.Choice.{pick}
 use Rattle.base.specs.Filling.{Filling, denied, fitted}
 use Rattle.signed.specs.Signed.{top8, top32, bits_of, signed_of, four_bytes, of_four}
 use Rattle.gate_refusal.specs.Numbers.{number_of}
+use Rattle.gate_refusal.specs.declared.GateRefusal.{GateRefusal}
 use Rattle.gate_answers.specs.declared.BarrierAnswer.{BarrierAnswer}
 use Rattle.gate_answers.specs.declared.BarrierAnswer.TheVariants.{Ack, Nak, Busy, Syn, Count, Position}
-use Rattle.gate_answers.specs.declared.AnswerRead.{AnswerRead}
-use Rattle.gate_answers.specs.declared.AnswerRead.TheVariants.{Answer, Refused}
 
 -- the kind of an answer is its first byte
 abbrev pub ack : ℕ
@@ -64,9 +63,9 @@ pub data Reading : Type 0 where
   reads : BarrierAnswer → Reading
   refuses : ℕ → Reading
 
-abbrev pub reading_of : AnswerRead → Reading
-reading_of (Answer a) = reads a
-reading_of (Refused r) = refuses (number_of r)
+abbrev pub reading_of : Result BarrierAnswer GateRefusal → Reading
+reading_of (Ok a) = reads a
+reading_of (Err r) = refuses (number_of r)
 
 -- an answer that is so many bytes long, kind included; any other length is 7
 abbrev pub sized : ℕ → List ℕ → Reading → Reading

@@ -26,7 +26,7 @@ pub const POSITION: u8 = 0x1D;
 
 // Yes; no; not at present; it takes time, and another answer follows; the vehicle count; the position of the beam in percent, or
 // -1 where it is unknown.
-#[derive(Clone, Copy)]
+#[derive(Clone, Copy, Debug, PartialEq, Eq)]
 pub enum BarrierAnswer {
     Ack,
     Nak,
@@ -34,13 +34,6 @@ pub enum BarrierAnswer {
     Syn,
     Count(i32),
     Position(i8),
-}
-
-// What reading an answer gives.
-#[derive(Clone, Copy)]
-pub enum AnswerRead {
-    Answer(BarrierAnswer),
-    Refused(GateRefusal),
 }
 
 // Whether a number is a position.
@@ -108,47 +101,47 @@ pub fn write_answer(answer: BarrierAnswer, out: &mut [u8]) -> Result<usize, Gate
 }
 
 // An answer that is one byte long.
-fn read_alone(answer: BarrierAnswer, src: &[u8]) -> AnswerRead
+fn read_alone(answer: BarrierAnswer, src: &[u8]) -> Result<BarrierAnswer, GateRefusal>
     ensures { reading_of result ≡ sized 1 src.now (reads answer) }
 {
     if src.len() != 1 {
-        return AnswerRead::Refused(GateRefusal::Length);
+        return Err(GateRefusal::Length);
     }
-    AnswerRead::Answer(answer)
+    Ok(answer)
 }
 
 // The answer with the vehicle count.
-fn read_count(src: &[u8]) -> AnswerRead
+fn read_count(src: &[u8]) -> Result<BarrierAnswer, GateRefusal>
     ensures { reading_of result ≡ sized 5 src.now (reads (Count (signed_of top32 (of_four (drop 1 src.now))))) }
 {
     if src.len() != 5 {
-        return AnswerRead::Refused(GateRefusal::Length);
+        return Err(GateRefusal::Length);
     }
     let n = signed::of_four([src[1], src[2], src[3], src[4]]);
-    AnswerRead::Answer(BarrierAnswer::Count(i32::from_bits(n)))
+    Ok(BarrierAnswer::Count(i32::from_bits(n)))
 }
 
 // The answer with a position.
-fn read_position(src: &[u8]) -> AnswerRead
+fn read_position(src: &[u8]) -> Result<BarrierAnswer, GateRefusal>
     ensures { reading_of result ≡ sized 2 src.now (position_at (signed_of top8 (get_or src.now 1 0))) }
 {
     if src.len() != 2 {
-        return AnswerRead::Refused(GateRefusal::Length);
+        return Err(GateRefusal::Length);
     }
     let z = i8::from_bits(src[1]);
     if !is_position(z as i32) {
-        return AnswerRead::Refused(GateRefusal::Position);
+        return Err(GateRefusal::Position);
     }
-    AnswerRead::Answer(BarrierAnswer::Position(z))
+    Ok(BarrierAnswer::Position(z))
 }
 
 // The answer that bytes are. Refused: 7 for no byte at all; then 3 for an unknown kind; then 7 for a known kind of another
 // length; then 10 for a position that is not -1 to 100.
-pub fn read_answer(src: &[u8]) -> AnswerRead
+pub fn read_answer(src: &[u8]) -> Result<BarrierAnswer, GateRefusal>
     ensures { reading_of result ≡ answer_reading src.now }
 {
     if src.len() == 0 {
-        return AnswerRead::Refused(GateRefusal::Length);
+        return Err(GateRefusal::Length);
     }
     let kind = src[0];
     if kind == ACK {
@@ -169,5 +162,5 @@ pub fn read_answer(src: &[u8]) -> AnswerRead
     if kind == POSITION {
         return read_position(src);
     }
-    AnswerRead::Refused(GateRefusal::Kind)
+    Err(GateRefusal::Kind)
 }

@@ -10,7 +10,7 @@ use lib.Seq.{sets}
 use Rattle.base.specs.Filling.{Filling, filled, denied}
 use Rattle.base.proofs.Filling.{fitted_short, fitted_stored}
 use Rattle.gate_commands.specs.Commands.{answers, refuses, operation, pair, after, function_of, commands, carried_out, functioning, commanding, operate_byte, operating, command_of, command_writing}
-use Rattle.gate_commands.specs.declared.Found.TheVariants.{Function, Unknown}
+use Rattle.std.specs.Prelude.{Some, None}
 use Rattle.gate_commands.specs.declared.GateFunction.{GateFunction}
 use Rattle.gate_commands.specs.declared.GateFunction.TheVariants.{Pulse, Activate, Deactivate}
 use Rattle.gate_commands.specs.declared.GateRegisters.{GateRegisters}
@@ -21,19 +21,19 @@ after_deactivate false edge = refl
 after_deactivate true edge = refl
 
 module _ (b : ℕ) where
-  pub function_pulse : b ≡ 0x00 → function_of b ≡ Function Pulse
+  pub function_pulse : b ≡ 0x00 → function_of b ≡ Some Pulse
   unfolding function_of
   function_pulse e = rw e
 
-  pub function_activate : b ≡ 0x01 → function_of b ≡ Function Activate
+  pub function_activate : b ≡ 0x01 → function_of b ≡ Some Activate
   unfolding function_of
   function_activate e = rw e
 
-  pub function_deactivate : b ≡ 0x02 → function_of b ≡ Function Deactivate
+  pub function_deactivate : b ≡ 0x02 → function_of b ≡ Some Deactivate
   unfolding function_of
   function_deactivate e = rw e
 
-  pub function_unknown : (b ≡ 0x00 → ⊥) → (b ≡ 0x01 → ⊥) → (b ≡ 0x02 → ⊥) → function_of b ≡ Unknown
+  pub function_unknown : (b ≡ 0x00 → ⊥) → (b ≡ 0x01 → ⊥) → (b ≡ 0x02 → ⊥) → function_of b ≡ None
   unfolding function_of
   function_unknown p a d = simp (ne_eqb _ _ p, ne_eqb _ _ a, ne_eqb _ _ d)
 
@@ -42,12 +42,12 @@ module _ (r : GateRegisters) (c f : ℕ) where
   unfolding commanding
   command_none h = simp (le-ltb _ _ h)
 
-  pub command_known : {g : GateFunction} → c < commands → function_of f ≡ Function g →
+  pub command_known : {g : GateFunction} → c < commands → function_of f ≡ Some g →
       commanding r c f ≡ operation (answers 0x01) (carried_out r c g)
   unfolding commanding functioning
   command_known h e = rw (lt-ltb c commands h, e)
 
-  pub command_unknown : c < commands → function_of f ≡ Unknown → commanding r c f ≡ operation (answers 0x02) r
+  pub command_unknown : c < commands → function_of f ≡ None → commanding r c f ≡ operation (answers 0x02) r
   unfolding commanding functioning
   command_unknown h e = rw (lt-ltb c commands h, e)
 

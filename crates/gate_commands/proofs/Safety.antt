@@ -11,8 +11,7 @@ use lib.Seq.{get_or-set_same, get_or-set_other, set-get_or}
 use Rattle.base.proofs.Choice.{pick_either}
 use Rattle.gate_commands.specs.Commands.{Verdict, Operation, answers, refuses, operation, pair, after, function_of, commands, carried_out, functioning, commanding, operate_byte, operating, command_of}
 use Rattle.gate_commands.specs.Safety.{level_at, edge_at, pair_after, EdgesOnlySet, PulseKeepsLevels, OnlyAt, OnlyNamedChanges, NotAckKeepsAll, Rows, TableRows}
-use Rattle.gate_commands.specs.declared.Found.{Found}
-use Rattle.gate_commands.specs.declared.Found.TheVariants.{Function, Unknown}
+use Rattle.std.specs.Prelude.{Option, Some, None}
 use Rattle.gate_commands.specs.declared.GateFunction.{GateFunction}
 use Rattle.gate_commands.specs.declared.GateFunction.TheVariants.{Pulse, Activate, Deactivate}
 use Rattle.gate_commands.specs.declared.GateRegisters.{GateRegisters}
@@ -67,10 +66,10 @@ module _ (r : GateRegisters) (c : ℕ) where
     keeps_all = λ n. absurd (n refl);
   }
 
-  function_lawful : (f : Found) → Lawful (functioning r c f)
+  function_lawful : (f : Option GateFunction) → Lawful (functioning r c f)
   unfolding functioning
-  function_lawful (Function f) = carried_out_lem f
-  function_lawful Unknown = as_before (answers 0x02)
+  function_lawful (Some f) = carried_out_lem f
+  function_lawful None = as_before (answers 0x02)
 
 operating_lawful : (r : GateRegisters) (bs : List ℕ) → Lawful r (get_or bs 1 0) (operating r bs)
 unfolding operating commanding
@@ -105,7 +104,7 @@ pulse_keeps_levels r c =
 
 module _ (r : GateRegisters) (c : ℕ) (levels : c < length r.levels) (edges : c < length r.edges) (there : c < commands) where
   -- the registers of a command after it, for a byte that is a function
-  becomes : (b : ℕ) (f : GateFunction) → function_of b ≡ Function f → pair_after r c b ≡ after (level_at r c) f (edge_at r c)
+  becomes : (b : ℕ) (f : GateFunction) → function_of b ≡ Some f → pair_after r c b ≡ after (level_at r c) f (edge_at r c)
   unfolding carried_out
   becomes b f e =
       rw (command_carried_out r c b, command_known r c b there e)

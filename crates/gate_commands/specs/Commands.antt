@@ -2,18 +2,17 @@
 -- commands are 00 BT, 01 BA, 02 BZ and 03 BS, and 04 to 09 for the multifunction relays 1 to 6. The "level register" of a
 -- command says whether it is held, and its "edge register" that it was given and not yet acted on.
 -- Assumes nothing.
-use Rattle.std.specs.Prelude.{ℕ, Bool, true, false, not, List, [], ◌∷◌, eqb, ltb, length, get_or, set}
+use Rattle.std.specs.Prelude.{ℕ, Bool, true, false, not, List, [], ◌∷◌, Option, Some, None, Result, Ok, Err, eqb, ltb, length, get_or, set}
 use Rattle.base.specs.Choice.{pick}
 use Rattle.base.specs.Filling.{Filling, fitted}
 use Rattle.gate_refusal.specs.Numbers.{number_of}
+use Rattle.gate_refusal.specs.declared.GateRefusal.{GateRefusal}
 use Rattle.gate_commands.specs.declared.GateRegisters.{GateRegisters}
 use Rattle.gate_commands.specs.declared.GateFunction.{GateFunction}
 use Rattle.gate_commands.specs.declared.GateFunction.TheVariants.{Pulse, Activate, Deactivate}
 use Rattle.gate_commands.specs.declared.GatePair.{GatePair}
-use Rattle.gate_commands.specs.declared.Found.{Found}
-use Rattle.gate_commands.specs.declared.Found.TheVariants.{Function, Unknown}
 use Rattle.gate_commands.specs.declared.OperateAnswer.{OperateAnswer}
-use Rattle.gate_commands.specs.declared.OperateAnswer.TheVariants.{Ack, Nak, Refused}
+use Rattle.gate_commands.specs.declared.OperateAnswer.TheVariants.{Ack, Nak}
 use Rattle.gate_commands.specs.declared.Operated.{Operated}
 
 abbrev pub pair : Bool → Bool → GatePair
@@ -30,9 +29,9 @@ after true Activate e = pair true e
 after true Deactivate e = pair false e
 
 -- the function of a byte: 00 pulse, 01 activate, 02 deactivate
-unfoldable pub function_of : ℕ → Found
+unfoldable pub function_of : ℕ → Option GateFunction
 function_of b =
-    pick (eqb b 0x00) (Function Pulse) (pick (eqb b 0x01) (Function Activate) (pick (eqb b 0x02) (Function Deactivate) Unknown))
+    pick (eqb b 0x00) (Some Pulse) (pick (eqb b 0x01) (Some Activate) (pick (eqb b 0x02) (Some Deactivate) None))
 
 -- the commands are 00 to 09; the registers of command c stand at place c, and no others change
 abbrev pub commands : ℕ
@@ -48,10 +47,10 @@ pub data Verdict : Type 0 where
   answers : ℕ → Verdict
   refuses : ℕ → Verdict
 
-abbrev pub verdict_of : OperateAnswer → Verdict
-verdict_of Ack = answers 0x01
-verdict_of Nak = answers 0x02
-verdict_of (Refused r) = refuses (number_of r)
+abbrev pub verdict_of : Result OperateAnswer GateRefusal → Verdict
+verdict_of (Ok Ack) = answers 0x01
+verdict_of (Ok Nak) = answers 0x02
+verdict_of (Err r) = refuses (number_of r)
 
 -- the answer, and the registers afterwards
 pub record Operation : Type 0 where
@@ -65,9 +64,9 @@ abbrev pub operation_of : Operated → Operation
 operation_of o = operation (verdict_of o.answer) o.registers
 
 -- a function that there is is carried out and answered by ack, another byte by nak
-unfoldable pub functioning : GateRegisters → ℕ → Found → Operation
-functioning r c (Function f) = operation (answers 0x01) (carried_out r c f)
-functioning r c Unknown = operation (answers 0x02) r
+unfoldable pub functioning : GateRegisters → ℕ → Option GateFunction → Operation
+functioning r c (Some f) = operation (answers 0x01) (carried_out r c f)
+functioning r c None = operation (answers 0x02) r
 
 -- a command that there is not is answered by nak
 unfoldable pub commanding : GateRegisters → ℕ → ℕ → Operation

@@ -47,25 +47,17 @@ struct GatePair {
     edge: bool,
 }
 
-// The function of a byte, or that there is none.
-#[derive(Clone, Copy)]
-enum Found {
-    Function(GateFunction),
-    Unknown,
-}
-
-// What an operating command is answered by: ack, nak, or that its data is refused.
-#[derive(Clone, Copy)]
+// What an operating command is answered by.
+#[derive(Clone, Copy, Debug, PartialEq, Eq)]
 pub enum OperateAnswer {
     Ack,
     Nak,
-    Refused(GateRefusal),
 }
 
-// The answer to an operating command, and the registers after it.
+// The answer to an operating command, or why its data is refused; and the registers after it.
 #[derive(Clone, Copy)]
 pub struct Operated {
-    pub answer: OperateAnswer,
+    pub answer: Result<OperateAnswer, GateRefusal>,
     pub registers: GateRegisters,
 }
 
@@ -96,20 +88,17 @@ fn pair_after(level: bool, function: GateFunction, edge: bool) -> GatePair
     }
 }
 
-// The function of a byte.
-fn function_of(b: u8) -> Found
+// The function of a byte, if it has one.
+#[tactic(auto, unfolding(crate::specs::Commands::function_of))]
+fn function_of(b: u8) -> Option<GateFunction>
     ensures { result ≡ function_of b }
 {
-    if b == 0 {
-        return Found::Function(GateFunction::Pulse);
+    match b {
+        0 => Some(GateFunction::Pulse),
+        1 => Some(GateFunction::Activate),
+        2 => Some(GateFunction::Deactivate),
+        _ => None,
     }
-    if b == 1 {
-        return Found::Function(GateFunction::Activate);
-    }
-    if b == 2 {
-        return Found::Function(GateFunction::Deactivate);
-    }
-    Found::Unknown
 }
 
 // Carries out a function on the registers of a command, which there is.
@@ -131,17 +120,17 @@ fn command_answer(registers: GateRegisters, command: u8, function: u8) -> Operat
 {
     if COMMANDS <= command as usize {
         return Operated {
-            answer: OperateAnswer::Nak,
+            answer: Ok(OperateAnswer::Nak),
             registers,
         };
     }
     match function_of(function) {
-        Found::Function(known) => Operated {
-            answer: OperateAnswer::Ack,
+        Some(known) => Operated {
+            answer: Ok(OperateAnswer::Ack),
             registers: carry_out(registers, command, known),
         },
-        Found::Unknown => Operated {
-            answer: OperateAnswer::Nak,
+        None => Operated {
+            answer: Ok(OperateAnswer::Nak),
             registers,
         },
     }
@@ -155,13 +144,13 @@ pub fn operate(registers: GateRegisters, src: &[u8]) -> Operated
 {
     if src.len() != 3 {
         return Operated {
-            answer: OperateAnswer::Refused(GateRefusal::Length),
+            answer: Err(GateRefusal::Length),
             registers,
         };
     }
     if src[0] != OPERATE {
         return Operated {
-            answer: OperateAnswer::Refused(GateRefusal::Kind),
+            answer: Err(GateRefusal::Kind),
             registers,
         };
     }

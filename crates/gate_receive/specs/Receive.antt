@@ -1,18 +1,19 @@
 -- The receiver of the gate bus: what one event gives, phase by phase.
 -- Assumes nothing.
-use Rattle.std.specs.Prelude.{ℕ, ◌+◌, ◌-◌, Bool, false, not, ◌||◌, List, [], ◌∷◌, eqb, leb, ltb, length, set, take}
+use Rattle.std.specs.Prelude.{ℕ, ◌+◌, ◌-◌, Bool, false, not, ◌||◌, List, [], ◌∷◌, Result, Ok, Err, eqb, leb, ltb, length, set, take}
 use Rattle.base.specs.Choice.{pick}
 use Rattle.base.specs.Places.{placed}
 use Rattle.base.specs.Words.{word}
 use Rattle.crc16.specs.Ccitt.{ccitt_start, ccitt_byte, ccitt_over}
 use Rattle.gate_refusal.specs.Numbers.{number_of}
+use Rattle.gate_refusal.specs.declared.GateRefusal.{GateRefusal}
 use Rattle.gate_telegram.specs.Telegram.{start_byte, reserved, max_data, slave_token}
 use Rattle.gate_receive.specs.declared.GateState.{GateState}
 use Rattle.gate_receive.specs.declared.GateState.TheVariants.{Rest, AtDestination, AtSource, AtLength, AtData, AtLowCheck, OthersSource, OthersLength, Dropping}
 use Rattle.gate_receive.specs.declared.GateEvent.{GateEvent}
 use Rattle.gate_receive.specs.declared.GateEvent.TheVariants.{Byte, Timer}
 use Rattle.gate_receive.specs.declared.GateAnswer.{GateAnswer}
-use Rattle.gate_receive.specs.declared.GateAnswer.TheVariants.{Nothing, Telegram, Token, Refused}
+use Rattle.gate_receive.specs.declared.GateAnswer.TheVariants.{Nothing, Telegram, Token}
 use Rattle.gate_receive.specs.declared.GateStep.{GateStep}
 
 -- what the receiver says to an event: nothing; a telegram was accepted, from this source and with so many bytes of data,
@@ -24,11 +25,11 @@ pub data Response : Type 0 where
   refuses : ℕ → Response
 
 -- an answer in numbers
-abbrev pub response_of : GateAnswer → Response
-response_of Nothing = nothing
-response_of (Telegram s n) = telegram s n
-response_of (Token s) = token s
-response_of (Refused r) = refuses (number_of r)
+abbrev pub response_of : Result GateAnswer GateRefusal → Response
+response_of (Ok Nothing) = nothing
+response_of (Ok (Telegram s n)) = telegram s n
+response_of (Ok (Token s)) = token s
+response_of (Err r) = refuses (number_of r)
 
 -- the answer and the next state
 pub record Reaction : Type 0 where

@@ -70,19 +70,18 @@ pub enum GateEvent {
     Timer,
 }
 
-// Nothing; a telegram with its source and the number of its data bytes; a token with its source; a refusal.
-#[derive(Clone, Copy)]
+// Nothing; a telegram with its source and the number of its data bytes; a token with its source.
+#[derive(Clone, Copy, Debug, PartialEq, Eq)]
 pub enum GateAnswer {
     Nothing,
     Telegram { source: u8, size: u8 },
     Token { source: u8 },
-    Refused(GateRefusal),
 }
 
 // The answer to an event, and the state after it.
 #[derive(Clone, Copy)]
 pub struct GateStep {
-    pub answer: GateAnswer,
+    pub answer: Result<GateAnswer, GateRefusal>,
     pub state: GateState,
 }
 
@@ -91,13 +90,13 @@ fn go_on(state: GateState) -> GateStep
     ensures { reaction_of result ≡ to nothing state }
 {
     GateStep {
-        answer: GateAnswer::Nothing,
+        answer: Ok(GateAnswer::Nothing),
         state,
     }
 }
 
 // An answer with which the receiver starts again.
-fn start_again(answer: GateAnswer) -> GateStep
+fn start_again(answer: Result<GateAnswer, GateRefusal>) -> GateStep
     ensures { reaction_of result ≡ starting_again (response_of answer) }
 {
     GateStep {
@@ -134,7 +133,7 @@ fn length_byte(destination: u8, source: u8, check: u16, b: u8) -> GateStep
     ensures { reaction_of result ≡ length_of destination source check b }
 {
     if MAX_DATA < b as usize {
-        return start_again(GateAnswer::Refused(GateRefusal::Length));
+        return start_again(Err(GateRefusal::Length));
     }
     go_on(GateState::AtData {
         destination,
@@ -184,13 +183,13 @@ fn accept(source: u8, size: u8, store: &[u8], out: &mut [u8]) -> GateStep
 {
     let n = size as usize;
     if n == 0 {
-        return start_again(GateAnswer::Token { source });
+        return start_again(Ok(GateAnswer::Token { source }));
     }
     if out.len() < n {
-        return start_again(GateAnswer::Refused(GateRefusal::OutputShort));
+        return start_again(Err(GateRefusal::OutputShort));
     }
     places::put(&store[0..n], &mut *out, 0);
-    start_again(GateAnswer::Telegram { source, size })
+    start_again(Ok(GateAnswer::Telegram { source, size }))
 }
 
 // The low byte of the check, at which the telegram is judged.
@@ -208,13 +207,13 @@ fn low_check_byte(
     ensures { judging_of result out.new ≡ judged_of destination source size check high b store.now out.old }
 {
     if words::word_of(high, b) != check {
-        return start_again(GateAnswer::Refused(GateRefusal::Check));
+        return start_again(Err(GateRefusal::Check));
     }
     if source == RESERVED {
-        return start_again(GateAnswer::Refused(GateRefusal::Address));
+        return start_again(Err(GateRefusal::Address));
     }
     if gate_telegram::is_slave_token(destination, source, size as usize) {
-        return start_again(GateAnswer::Refused(GateRefusal::Address));
+        return start_again(Err(GateRefusal::Address));
     }
     accept(source, size, store, &mut *out)
 }
@@ -315,7 +314,7 @@ fn refuse(state: GateState) -> GateStep
     ensures { reaction_of result ≡ to (refuses 1) state }
 {
     GateStep {
-        answer: GateAnswer::Refused(GateRefusal::Setup),
+        answer: Err(GateRefusal::Setup),
         state,
     }
 }
@@ -342,10 +341,10 @@ pub fn receive(
         return refuse(state);
     }
     if own == RESERVED {
-        return start_again(GateAnswer::Refused(GateRefusal::Address));
+        return start_again(Err(GateRefusal::Address));
     }
     match event {
         GateEvent::Byte(b) => take_byte(own, state, b, &mut *store, &mut *out),
-        GateEvent::Timer => start_again(GateAnswer::Nothing),
+        GateEvent::Timer => start_again(Ok(GateAnswer::Nothing)),
     }
 }

@@ -10,15 +10,15 @@ use Rattle.c_gate.proofs.hanraquin_gate_read_answer.Goals as goal
 pub returns-then-number-ne1 : goal.returns-then-number-ne1
 returns-then-number-ne1 c = rw c.refused.ensures (sym (no_place _ _ c.if-number-ne1.true))
 
-pub returns-in-Answer : goal.returns-in-Answer
-returns-in-Answer c =
+pub returns-in-Ok : goal.returns-in-Ok
+returns-in-Ok c =
     let read = c in
-    let told = ap reading_of (sym c.in-Answer.is) in
+    let told = ap reading_of (sym c.in-Ok.is) in
     tells _ _ read.if-number-ne1.false (told ∙ read.read_answer.ensures) c.kind_of.ensures
     (to_z-of_z {w = w32} {z = c.number_of-z.result} (record { sfits = c.number_of-z.type_inv }) ∙ c.number_of-z.ensures)
 
-pub returns-in-Refused : goal.returns-in-Refused
-returns-in-Refused c =
+pub returns-in-Err : goal.returns-in-Err
+returns-in-Err c =
     let read = c in
-    let told = ap reading_of (sym c.in-Refused.is) in
-    tells_refusal _ _ read.if-number-ne1.false (told ∙ read.read_answer.ensures) c.refused-in-Refused.ensures
+    let told = ap reading_of (sym c.in-Err.is) in
+    tells_refusal _ _ read.if-number-ne1.false (told ∙ read.read_answer.ensures) c.refused-in-Err.ensures

@@ -16,13 +16,13 @@ known s =
     let start = s in
     s.answer_at.ensures ∙ ap (answer_at start.args.kind) (to_z-of_z start.ranges.number)
 
-pub returns-in-Answer : goal.returns-in-Answer
-returns-in-Answer c =
-    let told = c.in-Answer.is in
+pub returns-in-Ok : goal.returns-in-Ok
+returns-in-Ok c =
+    let told = c.in-Ok.is in
     let w = c in
-    writes _ _ _ (ap reading_of (sym told) ∙ known (goal.at.returns-in-Answer c).After-answer_at) (rw c.of_writing.ensures (ap written_by w.write_answer.ensures))
+    writes _ _ _ (ap reading_of (sym told) ∙ known (goal.at.returns-in-Ok c).After-answer_at) (rw c.of_writing.ensures (ap written_by w.write_answer.ensures))
 
-pub returns-in-Refused : goal.returns-in-Refused
-returns-in-Refused c =
-    let told = c.in-Refused.is in
-    writes _ _ _ (ap reading_of (sym told) ∙ known (goal.at.returns-in-Refused c).After-answer_at) (rw c.refused.ensures)
+pub returns-in-Err : goal.returns-in-Err
+returns-in-Err c =
+    let told = c.in-Err.is in
+    writes _ _ _ (ap reading_of (sym told) ∙ known (goal.at.returns-in-Err c).After-answer_at) (rw c.refused.ensures)
