@@ -20,9 +20,9 @@ use Rattle.net_journey.specs.Bounded.{most_transmissions}
 use Rattle.net_journey.proofs.Whole.{at_most_62}
 use Rattle.net_hop.specs.Tables.{net_of, set_up}
 use Rattle.net_dry_run.specs.DryRun.{Outcome, played, outright, outcome_of, DryRun, run_output, of_course, run_of, dry_run, RanTheJourney}
-use Rattle.net_hop.specs.declared.JourneyEnd.{JourneyEnd}
-use Rattle.net_dry_run.specs.declared.DryRunAnswer.{DryRunAnswer}
-use Rattle.net_dry_run.specs.declared.DryRunAnswer.TheVariants.{Played}
+use Rattle.std.specs.Prelude.{Result, Ok}
+use Rattle.refusal.specs.declared.Refusal.{Refusal}
+use Rattle.net_dry_run.specs.declared.Played.{Played}
 use Rattle.net_hop.proofs.Tables.{good_net_lem}
 use Rattle.net_dry_run.proofs.Journeys.{runs_the_journey}
 use Rattle.c_answer.specs.Answer.{refused}
@@ -100,9 +100,9 @@ module _ (tg addresses tables out : List ℕ) where
   refusal_told = outcome_by Ended not_ended ended_journey
 
 -- of an answer that is a run
-pub small_parts : (count : ℕ) (e : JourneyEnd) (n : ℕ) {a : DryRunAnswer} → SmallRun (outcome_of a) → a ≡ Played count e n →
-    (count ≤ most_transmissions) × (n ≤ run_output)
-small_parts count e n small told = subst (λ (x : DryRunAnswer). SmallRun (outcome_of x)) told small
+pub small_parts : (p : Played) {a : Result Played Refusal} → SmallRun (outcome_of a) → a ≡ Ok p →
+    (p.count ≤ most_transmissions) × (p.length ≤ run_output)
+small_parts p small told = subst (λ (x : Result Played Refusal). SmallRun (outcome_of x)) told small
 
 -- the call, by the length of the result
 module _ (tg addresses tables out result : List ℕ) where

@@ -7,7 +7,7 @@ ghost use Rattle.net_dry_run.specs.DryRun.{outcome_of};
 ghost use Rattle.c_net.specs.Net.{ending_number, of_outcome, result_after, ran, dry_run_call};
 ghost use Rattle.c_net.specs.Private.Small.{SmallRun};
 
-use net_dry_run::DryRunAnswer;
+use net_dry_run::Played;
 use net_hop::JourneyEnd;
 use refusal::{Numbered, Refusal};
 
@@ -33,18 +33,23 @@ fn put_result(count: u32, ending: u32, last: u32, res: &mut [u32])
 }
 
 // The answer of a dry run, and its result.
-fn of_outcome(answer: DryRunAnswer, res: &mut [u32]) -> u64
+fn of_outcome(answer: Result<Played, Refusal>, res: &mut [u32]) -> u64
     requires res_len { length res.old ≡ 3 }
     requires small_run { SmallRun (outcome_of answer) }
     ensures value { result ≡ of_outcome (outcome_of answer) }
     ensures res_after { res.new ≡ result_after (outcome_of answer) res.old }
 {
     match answer {
-        DryRunAnswer::Played(count, end, n) => {
-            put_result(count as u32, ending_number(end), n as u32, &mut *res);
-            count as u64
+        Ok(played) => {
+            put_result(
+                played.count as u32,
+                ending_number(played.ending),
+                played.length as u32,
+                res,
+            );
+            played.count as u64
         }
-        DryRunAnswer::Refused(r) => c_answer::refused(r),
+        Err(r) => c_answer::refused(r),
     }
 }
 

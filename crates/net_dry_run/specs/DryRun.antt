@@ -1,9 +1,10 @@
 -- The dry run: the journey of a telegram played over tables end to end.
 -- Assumes nothing.
-use Rattle.std.specs.Prelude.{ℕ, ◌-◌, ◌≤◌, ◌≡◌, true, not, List, ◌++◌, ltb, length, replicate}
+use Rattle.std.specs.Prelude.{ℕ, ◌-◌, ◌≤◌, ◌≡◌, true, not, List, ◌++◌, Result, Ok, Err, ltb, length, replicate}
 use Rattle.base.specs.Choice.{pick}
 use Rattle.base.specs.Places.{placed}
 use Rattle.refusal.specs.Numbers.{number_of}
+use Rattle.refusal.specs.declared.Refusal.{Refusal}
 use Rattle.mop_header.specs.Header.{Head}
 use Rattle.mop_reader.specs.Reading.{Reading, sound, faulty, too_long, reading}
 use Rattle.mop_reader.specs.declared.Reader.TheVariants.{Station}
@@ -13,8 +14,7 @@ use Rattle.net_journey.specs.Demand3.{TheJourney}
 use Rattle.net_journey.specs.Bounded.{playing, most_transmissions}
 use Rattle.net_hop.specs.Tables.{net_of, tables_of, set_up}
 use Rattle.net_hop.specs.Hop.{ending_of}
-use Rattle.net_dry_run.specs.declared.DryRunAnswer.{DryRunAnswer}
-use Rattle.net_dry_run.specs.declared.DryRunAnswer.TheVariants.{Played, Refused}
+use Rattle.net_dry_run.specs.declared.Played.{Played}
 
 -- what a dry run gives back: the count of transmissions, how the journey ended, and the length of its last telegram; or, refused
 -- outright, the number of the refusal
@@ -22,9 +22,9 @@ pub data Outcome : Type 0 where
   played : ℕ → Ending → ℕ → Outcome
   outright : ℕ → Outcome
 
-abbrev pub outcome_of : DryRunAnswer → Outcome
-outcome_of (Played count e n) = played count (ending_of e) n
-outcome_of (Refused r) = outright (number_of r)
+abbrev pub outcome_of : Result Played Refusal → Outcome
+outcome_of (Ok p) = played p.count (ending_of p.ending) p.length
+outcome_of (Err r) = outright (number_of r)
 
 -- what is given back, and the tables and the output afterwards
 pub record DryRun : Type 0 where
@@ -35,7 +35,7 @@ pub record DryRun : Type 0 where
 abbrev pub leaves : Outcome → List ℕ → List ℕ → DryRun
 leaves o tables out = record { outcome = o; tables = tables; output = out }
 
-abbrev pub dry_run_of : DryRunAnswer → List ℕ → List ℕ → DryRun
+abbrev pub dry_run_of : Result Played Refusal → List ℕ → List ℕ → DryRun
 dry_run_of r tables out = leaves (outcome_of r) tables out
 
 -- the places of the output that a dry run fills, and asks for

@@ -2,7 +2,7 @@
 // step on the header; the entries of the block stay where the telegram has them, and the last telegram is written at the end.
 #![tactic(auto)]
 
-ghost use Rattle.std.specs.Prelude.{◌≡◌, true, ◌≤◌, length, take, drop};
+ghost use Rattle.std.specs.Prelude.{◌≡◌, true, ◌≤◌, length, take, drop, Ok};
 ghost use Rattle.base.specs.Places.{placed};
 ghost use Rattle.mop_header.specs.Header.{head_of, telegram_of, block_start};
 ghost use Rattle.mop_reader.specs.Reading.{sound, reading};
@@ -25,11 +25,12 @@ use refusal::Refusal;
 // The places of the output that a dry run fills, and asks for.
 const RUN_OUTPUT: usize = 1024;
 
-// What a dry run gives: the count of transmissions, how the journey ended and the length of the last telegram; or a refusal.
+// What a dry run gives: the count of transmissions, how the journey ended and the length of the last telegram.
 #[derive(Clone, Copy)]
-pub enum DryRunAnswer {
-    Played(usize, JourneyEnd, usize),
-    Refused(Refusal),
+pub struct Played {
+    pub count: usize,
+    pub ending: JourneyEnd,
+    pub length: usize,
 }
 
 // Clears the places of out from `from` on, of those that a dry run fills.
@@ -115,19 +116,23 @@ fn end_run(
     count: usize,
     ending: JourneyEnd,
     out: &mut [u8],
-) -> DryRunAnswer
+) -> Played
     requires body_len_bound { length (telegram_of (head_of header block.now) body.now) ≤ run_output }
     requires run_output_in_bounds { run_output ≤ length out.old }
-    ensures result_value { outcome_of result ≡ played count (ending_of ending) (length (telegram_of (head_of header block.now) body.now)) }
+    ensures result_value { outcome_of (Ok result) ≡ played count (ending_of ending) (length (telegram_of (head_of header block.now) body.now)) }
     ensures out_after { out.new ≡ placed (padded (telegram_of (head_of header block.now) body.now)) out.old }
 {
     let length = header.length() + body.len();
-    mop_header::write(header, block, body, &mut *out);
+    let _ = mop_header::write(header, block, body, &mut *out);
     clear_from(length, &mut *out);
-    DryRunAnswer::Played(count, ending, length)
+    Played {
+        count,
+        ending,
+        length,
+    }
 }
 
-// The way home of a reply. It is only relayed, so that nobody answers it, and the refusal is never given.
+// The way home of a reply. It is only relayed, so that nobody answers it.
 fn go_home(
     first: Header,
     block: &[u8],
@@ -137,11 +142,11 @@ fn go_home(
     addresses: &[u8],
     tables: &mut [u16],
     out: &mut [u8],
-) -> DryRunAnswer
+) -> Played
     requires on_its_way { OnItsWay addresses.now places.now tables.old before (head_of first block.now) body.now }
     requires block_value { (head_of first block.now).function ≡ Reply }
     requires run_output_in_bounds { run_output ≤ length out.old }
-    ensures { dry_run_of result tables.new out.new ≡ of_summary (summary_from before (net_of addresses.now tables.old) (head_of first block.now) body.now) out.old }
+    ensures { dry_run_of (Ok result) tables.new out.new ≡ of_summary (summary_from before (net_of addresses.now tables.old) (head_of first block.now) body.now) out.old }
 {
     let mut unused = [0u8; REPLY_BODY];
     let leg = walk(
@@ -159,7 +164,7 @@ fn go_home(
     let halt = leg.halt;
     match halt {
         Halt::Ended(e) => end_run(last, block, body, gone + 1, e, &mut *out),
-        Halt::Answered(_) => DryRunAnswer::Refused(Refusal::Setup),
+        Halt::Answered(_) => unreachable!(),
     }
 }
 
@@ -171,10 +176,10 @@ fn run(
     addresses: &[u8],
     tables: &mut [u16],
     out: &mut [u8],
-) -> DryRunAnswer
+) -> Played
     requires on_its_way { OnItsWay addresses.now (places_of addresses.now) tables.old 0 (head_of first block.now) body.now }
     requires run_output_in_bounds { run_output ≤ length out.old }
-    ensures { dry_run_of result tables.new out.new ≡ of_summary (summary_from 0 (net_of addresses.now tables.old) (head_of first block.now) body.now) out.old }
+    ensures { dry_run_of (Ok result) tables.new out.new ≡ of_summary (summary_from 0 (net_of addresses.now tables.old) (head_of first block.now) body.now) out.old }
 {
     let places = net_hop::places_of(addresses);
     let mut reply = [0u8; REPLY_BODY];
@@ -215,11 +220,11 @@ fn play(
     addresses: &[u8],
     tables: &mut [u16],
     out: &mut [u8],
-) -> DryRunAnswer
+) -> Played
     requires telegram_value { reading Station telegram.now ≡ sound (head_of header (drop (block_start header.form) telegram.now)) }
     requires tables_value { set_up addresses.now tables.old ≡ true }
     requires run_output_in_bounds { run_output ≤ length out.old }
-    ensures { dry_run_of result tables.new out.new ≡ of_course (playing most_transmissions (net_of addresses.now tables.old) telegram.now) out.old }
+    ensures { dry_run_of (Ok result) tables.new out.new ≡ of_course (playing most_transmissions (net_of addresses.now tables.old) telegram.now) out.old }
 {
     let n = telegram.len();
     let at = header.length();
@@ -244,20 +249,20 @@ pub fn dry_run(
     addresses: &[u8],
     tables: &mut [u16],
     out: &mut [u8],
-) -> DryRunAnswer
+) -> Result<Played, Refusal>
     ensures { dry_run_of result tables.new out.new ≡ dry_run telegram.now addresses.now tables.old out.old }
 {
     if !net_hop::is_set_up(addresses, &*tables) {
-        return DryRunAnswer::Refused(Refusal::Setup);
+        return Err(Refusal::Setup);
     }
     if MAX_TELEGRAM < telegram.len() {
-        return DryRunAnswer::Refused(Refusal::TooLong);
+        return Err(Refusal::TooLong);
     }
     if out.len() < RUN_OUTPUT {
-        return DryRunAnswer::Refused(Refusal::OutputShort);
+        return Err(Refusal::OutputShort);
     }
     match mop_reader::read(Reader::Station, telegram) {
-        Err(r) => DryRunAnswer::Refused(r),
-        Ok(header) => play(header, telegram, addresses, &mut *tables, &mut *out),
+        Err(r) => Err(r),
+        Ok(header) => Ok(play(header, telegram, addresses, &mut *tables, &mut *out)),
     }
 }

@@ -12,6 +12,8 @@ use lib.Seq.{take-append-le}
 use Rattle.base.specs.Choice.{pick}
 use Rattle.base.specs.Places.{placed}
 use Rattle.refusal.specs.Private.Numbers.{numbers_differ}
+use Rattle.refusal.specs.declared.Refusal.{Refusal}
+use Rattle.std.specs.Prelude.{Result, Ok, Err}
 use Rattle.mop_block.specs.Block.{has, first}
 use Rattle.mop_header.specs.Header.{Head}
 use Rattle.mop_reader.specs.Reading.{Reading, sound, faulty, max_telegram, reading}
@@ -27,8 +29,7 @@ use Rattle.net_hop.specs.declared.JourneyEnd.{JourneyEnd}
 use Rattle.net_hop.specs.declared.JourneyEnd.TheVariants as end
 use Rattle.net_hop.proofs.Tables.{addresses_of_net, good_net_lem}
 use Rattle.net_dry_run.specs.DryRun.{Outcome, played, outright, outcome_of, DryRun, leaves, run_output, padded, of_course, run_of, dry_run}
-use Rattle.net_dry_run.specs.declared.DryRunAnswer.{DryRunAnswer}
-use Rattle.net_dry_run.specs.declared.DryRunAnswer.TheVariants.{Played, Refused}
+use Rattle.net_dry_run.specs.declared.Played.{Played}
 use Rattle.net_dry_run.proofs.DryRuns.{not_set_up, too_long, output_short, run_by}
 use Rattle.net_dry_run.proofs.Journeys.{runs_the_journey}
 use Rattle.net_isolation.specs.Journeys.{SameCourse}
@@ -168,15 +169,15 @@ same_end (end.Refused r) end.AtZero x = let z : ◌≡◌ {A = ℕ} 0 1 = cc in 
 same_end (end.Refused r) end.AtNobody x = let z : ◌≡◌ {A = ℕ} 0 1 = cc in absurd (omega arith)
 same_end (end.Refused r) (end.Refused s) x = ap end.Refused (numbers_differ r s cc)
 
-same_answer : (r s : DryRunAnswer) → outcome_of r ≡ outcome_of s → r ≡ s
-same_answer (Played c e n) (Played d f m) x =
-    let counts : c ≡ d = cc in
-    let ends : ending_of e ≡ ending_of f = cc in
-    let lasts : n ≡ m = cc in
-    λ i. Played (counts i) (same_end e f ends i) (lasts i)
-same_answer (Played c e n) (Refused s) x = let z : ◌≡◌ {A = ℕ} 0 1 = cc in absurd (omega arith)
-same_answer (Refused r) (Played d f m) x = let z : ◌≡◌ {A = ℕ} 0 1 = cc in absurd (omega arith)
-same_answer (Refused r) (Refused s) x = ap Refused (numbers_differ r s cc)
+same_answer : (r s : Result Played Refusal) → outcome_of r ≡ outcome_of s → r ≡ s
+same_answer (Ok p) (Ok q) x =
+    let counts : p.count ≡ q.count = cc in
+    let ends : ending_of p.ending ≡ ending_of q.ending = cc in
+    let lengths : p.length ≡ q.length = cc in
+    λ i. Ok (record { count = counts i; ending = same_end p.ending q.ending ends i; length = lengths i })
+same_answer (Ok p) (Err s) x = cc
+same_answer (Err r) (Ok q) x = cc
+same_answer (Err r) (Err s) x = let refusals : r ≡ s = numbers_differ r s cc in λ i. Err (refusals i)
 
 pub calls_same : CallsSame
 calls_same tg addresses tables tables' out out' run r s after left after' left' p q =

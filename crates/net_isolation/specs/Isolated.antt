@@ -1,6 +1,7 @@
 -- What a dry run shows of a net: its stations, and no register but of the telegram's destination.
 -- Assumes nothing.
-use Rattle.std.specs.Prelude.{◌≡◌, false, List, ℕ, length, take}
+use Rattle.std.specs.Prelude.{◌≡◌, false, List, ℕ, Result, length, take}
+use Rattle.refusal.specs.declared.Refusal.{Refusal}
 use Rattle.mop_block.specs.Block.{has}
 use Rattle.mop_header.specs.Header.{Head}
 use Rattle.mop_reader.specs.Reading.{sound, reading}
@@ -9,7 +10,7 @@ use Rattle.mop_reader.specs.declared.Reader.TheVariants.{Station}
 use Rattle.net_journey.specs.Terms.{m, before_zeros}
 use Rattle.net_hop.specs.Tables.{net_of}
 use Rattle.net_dry_run.specs.DryRun.{Outcome, played, outright, outcome_of, DryRun, dry_run_of, run_output, dry_run}
-use Rattle.net_dry_run.specs.declared.DryRunAnswer.{DryRunAnswer}
+use Rattle.net_dry_run.specs.declared.Played.{Played}
 use Rattle.net_isolation.specs.Journeys.{SameAtDestination}
 
 -- the telegram is played, and not refused outright
@@ -72,11 +73,11 @@ abbrev pub RepliesIsolated : Type 0
 RepliesIsolated = (tg addresses : List ℕ) (h : Head) → reading Station tg ≡ sound h → h.function ≡ Reply → AllMayDiffer tg addresses
 
 -- a call of `dry_run` keeps its promise: r is its answer, and after and left are the tables and the output as it leaves them
-abbrev pub KeepsPromise : List ℕ → List ℕ → List ℕ → List ℕ → DryRunAnswer → List ℕ → List ℕ → Type 0
+abbrev pub KeepsPromise : List ℕ → List ℕ → List ℕ → List ℕ → Result Played Refusal → List ℕ → List ℕ → Type 0
 KeepsPromise tg addresses tables out r after left = dry_run_of r after left ≡ dry_run tg addresses tables out
 
 -- what two calls show is the same: the answer itself, and what they fill of the output
-pub record SameAnswer (r s : DryRunAnswer) (left left' : List ℕ) : Type 0 where
+pub record SameAnswer (r s : Result Played Refusal) (left left' : List ℕ) : Type 0 where
   pub answer : r ≡ s
   pub filled : IsPlayed (outcome_of r) → SameFilled left left'
 
@@ -84,12 +85,12 @@ pub record SameAnswer (r s : DryRunAnswer) (left left' : List ℕ) : Type 0 wher
 abbrev pub CallsSame : Type 0
 CallsSame =
     (tg addresses tables tables' out out' : List ℕ) → SameRun (dry_run tg addresses tables out) (dry_run tg addresses tables' out') →
-    (r s : DryRunAnswer) (after left after' left' : List ℕ) →
+    (r s : Result Played Refusal) (after left after' left' : List ℕ) →
     KeepsPromise tg addresses tables out r after left → KeepsPromise tg addresses tables' out' s after' left' → SameAnswer r s left left'
 
 -- and so of two calls between which only the registers of others than the destination differ
 abbrev pub CallsIsolated : Type 0
 CallsIsolated =
     (tg addresses tables tables' out out' : List ℕ) → OnlyOthersDiffer tg addresses tables tables' out out' →
-    (r s : DryRunAnswer) (after left after' left' : List ℕ) →
+    (r s : Result Played Refusal) (after left after' left' : List ℕ) →
     KeepsPromise tg addresses tables out r after left → KeepsPromise tg addresses tables' out' s after' left' → SameAnswer r s left left'

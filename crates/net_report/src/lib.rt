@@ -249,7 +249,12 @@ fn write_journey(
 // places of out: it is the one journey of that net (`tells_the_journey`, specs/Report.antt). A net that is set up wrongly and
 // a fault of the header are told as text too; the tables are then as they were.
 // Refused with 11, and all as it was: an output of fewer than 6,500 places.
-pub fn report(telegram: &[u8], addresses: &[u8], tables: &mut [u16], out: &mut [u8]) -> Result<usize, Refusal>
+pub fn report(
+    telegram: &[u8],
+    addresses: &[u8],
+    tables: &mut [u16],
+    out: &mut [u8],
+) -> Result<usize, Refusal>
     ensures { report_of result tables.new out.new ≡ reporting telegram.now addresses.now tables.old out.old }
 {
     if out.len() < REPORT_OUTPUT {
@@ -260,14 +265,6 @@ pub fn report(telegram: &[u8], addresses: &[u8], tables: &mut [u16], out: &mut [
     }
     match mop_reader::read(Reader::Station, telegram) {
         Err(refusal) => Ok(write_outright(refusal, &mut *out)),
-        Ok(header) => {
-            Ok(write_journey(
-                header,
-                telegram,
-                addresses,
-                &mut *tables,
-                &mut *out,
-            ))
-        }
+        Ok(header) => { Ok(write_journey(header, telegram, addresses, &mut *tables, &mut *out)) }
     }
 }

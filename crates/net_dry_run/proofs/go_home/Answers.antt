@@ -30,15 +30,12 @@ end_run-requires c =
     let s = h in
     record { body_len_bound = (led (goal.at.end_run-requires s).After-walk-leg h.in-Ended.is).short; run_output_in_bounds = s.requires.run_output_in_bounds }
 
-pub returns-in-Ended : goal.returns-in-Ended
-returns-in-Ended c =
-    let h = c in
-    let s = h in
+pub returns : goal.returns
+returns c =
     let ended = c.end_run.ensures in
-    ap₂ (λ (o : Outcome) (out : List ℕ). leaves o s.walk-leg.new.tables out) ended.result_value ended.out_after
-    ∙ run_ends s.args.out.now (led (goal.at.returns-in-Ended s).After-walk-leg h.in-Ended.is)
+    ap₂ (λ (o : Outcome) (out : List ℕ). leaves o c.walk-leg.new.tables out) ended.result_value ended.out_after
+    ∙ run_ends c.args.out.now (led (goal.at.returns c).After-walk-leg c.in-Ended.is)
 
-pub returns-in-Answered : goal.returns-in-Answered
-returns-in-Answered c =
-    let s = c in
-    never_turns s.requires.block_value (led (goal.at.returns-in-Answered s).After-walk-leg c.in-Answered.is).1
+pub unreachable-requires : goal.unreachable-requires
+unreachable-requires c =
+    never_turns c.requires.block_value (led (goal.at.unreachable-requires c).After-walk-leg c.in-Answered.is).1

@@ -30,26 +30,26 @@ returns-then-not-is_set_up c =
 pub write_journey-requires : goal.write_journey-requires
 write_journey-requires c =
     record {
-      telegram_value = sym (rw c.in-Fine.is at c.read.ensures);
+      telegram_value = sym (rw c.in-Ok.is at c.read.ensures);
       tables_value = is_fit (goal.at.write_journey-requires c).Else-not-is_set_up;
       report_output_in_bounds = search rules;
     }
 
-pub returns-in-Fault : goal.returns-in-Fault
+pub returns-in-Err : goal.returns-in-Err
 unfolding told_of
-returns-in-Fault c =
+returns-in-Err c =
     let a = c.args in
-    let x = c.write_outright-in-Fault.ensures in
-    let read = rw c.in-Fault.is at c.read.ensures in
-    tells_text (outright_text (number_of c.in-Fault.refusal)) a.tables.now a.out.now x.out_after (omega arith)
+    let x = c.write_outright-in-Err.ensures in
+    let read = rw c.in-Err.is at c.read.ensures in
+    tells_text (outright_text (number_of c.in-Err.refusal)) a.tables.now a.out.now x.out_after (omega arith)
     ∙ sym (reports_rest a.telegram.now a.addresses.now a.tables.now a.out.now (omega arith)
-    (is_fit (goal.at.returns-in-Fault c).Else-not-is_set_up) (sym read))
+    (is_fit (goal.at.returns-in-Err c).Else-not-is_set_up) (sym read))
 
-pub returns-in-Fine : goal.returns-in-Fine
+pub returns-in-Ok : goal.returns-in-Ok
 unfolding told_of
-returns-in-Fine c =
+returns-in-Ok c =
     let a = c.args in
-    let read = rw c.in-Fine.is at c.read.ensures in
+    let read = rw c.in-Ok.is at c.read.ensures in
     c.write_journey.ensures
     ∙ sym (reports_rest a.telegram.now a.addresses.now a.tables.now a.out.now (omega arith)
-    (is_fit (goal.at.returns-in-Fine c).Else-not-is_set_up) (sym read))
+    (is_fit (goal.at.returns-in-Ok c).Else-not-is_set_up) (sym read))
