@@ -1,6 +1,6 @@
 -- No message is longer than a block holds, and what is sent is a byte.
 -- Assumes nothing.
-use mathlib.Core.Path.{◌≡◌, refl, subst}
+use mathlib.Core.Path.{◌≡◌, refl}
 use mathlib.Core.Bool.{Bool, true, false, ◌||◌}
 use mathlib.Core.List.{List}
 use Prim.Native.Nat.{ℕ, ◌≤◌}
@@ -13,7 +13,7 @@ use Rattle.base.specs.Choice.{pick}
 use Rattle.base.proofs.Choice.{pick_either}
 use Rattle.link_frame.specs.Frame.{max_data}
 use Rattle.link_frame.specs.ControlBytes.{STX, ETX, DLE, NAK}
-use Rattle.link_receive.specs.Receive.{refuses, response_of, Reaction, Outcome, with, at, to, rest_of, no_room, Storing, after_store, store_of, data_of, inside_of, waiting_of, byte_of, timer_of, event_of, against, receive_of}
+use Rattle.link_receive.specs.Receive.{refuses, Reaction, Outcome, with, at, to, rest_of, no_room, Storing, after_store, store_of, data_of, inside_of, waiting_of, byte_of, timer_of, event_of, against, receive_of}
 use Rattle.link_receive.specs.declared.Dle.{Dle}
 use Rattle.link_receive.specs.declared.Dle.TheVariants.{Seen, NotSeen}
 use Rattle.link_receive.specs.declared.Phase.{Phase}
@@ -21,13 +21,7 @@ use Rattle.link_receive.specs.declared.Phase.TheVariants.{Rest, Inside, Waiting}
 use Rattle.link_receive.specs.declared.LinkState.{LinkState}
 use Rattle.link_receive.specs.declared.LinkEvent.{LinkEvent}
 use Rattle.link_receive.specs.declared.LinkEvent.TheVariants.{Byte, Timer}
-use Rattle.link_receive.specs.declared.LinkAnswer.{LinkAnswer}
-use Rattle.link_receive.specs.declared.LinkAnswer.TheVariants.{Message}
 use Rattle.c_link.specs.Private.Small.{SmallResponse}
-
--- of an answer that is a message
-pub message_bound : (n : ℕ) {a : LinkAnswer} → SmallResponse (response_of a) → a ≡ Message n → n ≤ max_data
-message_bound n short told = subst (λ (x : LinkAnswer). SmallResponse (response_of x)) told short
 
 abbrev short : Reaction → Type 0
 short r = SmallResponse r.response

@@ -70,15 +70,15 @@ fn event_at(n: u32) -> LinkEvent
 }
 
 // The answer to an event.
-fn of_response(answer: LinkAnswer) -> u64
+fn of_response(answer: Result<LinkAnswer, Refusal>) -> u64
     requires { SmallResponse (response_of answer) }
     ensures { result ≡ of_response (response_of answer) }
 {
     match answer {
-        LinkAnswer::Nothing => 0,
-        LinkAnswer::Send(b) => 256 + b as u64,
-        LinkAnswer::Message(n) => 65536 + n as u64,
-        LinkAnswer::Refused(r) => c_answer::refused(r),
+        Ok(LinkAnswer::Nothing) => 0,
+        Ok(LinkAnswer::Send(b)) => 256 + b as u64,
+        Ok(LinkAnswer::Message(n)) => 65536 + n as u64,
+        Err(r) => c_answer::refused(r),
     }
 }
 

@@ -1,6 +1,6 @@
 -- What an event at the sender comes to: so many bytes to send, these with a message, or a refusal that leaves all as it was.
 -- Assumes nothing.
-use mathlib.Core.Path.{◌≡◌, refl, ap, subst}
+use mathlib.Core.Path.{◌≡◌, refl, ap}
 use mathlib.Core.List.{List, [], ◌∷◌, append-nil}
 use Prim.Native.Nat.{ℕ, ◌+◌, ◌≤◌, ◌<◌}
 use native.Mathlib.Omega.{arith}
@@ -20,14 +20,12 @@ use Rattle.link_receive.specs.declared.LinkEvent.TheVariants as heard
 use Rattle.link_receive.specs.declared.LinkState.{LinkState}
 use Rattle.link_receive.specs.declared.Phase.{Phase}
 use Rattle.link_receive.specs.declared.Phase.TheVariants.{Rest, Inside, Waiting}
-use Rattle.link_send.specs.Send.{Part, opening, block, part_bytes, bytes_of, Turn, Taken, sending, connection_fails, block_fails, collision, opening_byte, awaiting_byte, relaying, at_phase, after_half, fresh_of, opening_of, awaiting_of, receiving_of, in_phase, turn_of, misset, SendResponse, sends, delivers, refuses, response_of, SendReaction, SendOutcome, leaving, Sending, refusing, responding, outgoing, send_of}
+use Rattle.link_send.specs.Send.{Part, opening, block, part_bytes, bytes_of, Turn, Taken, sending, connection_fails, block_fails, collision, opening_byte, awaiting_byte, relaying, at_phase, after_half, fresh_of, opening_of, awaiting_of, receiving_of, in_phase, turn_of, misset, SendResponse, sends, delivers, refuses, SendReaction, SendOutcome, leaving, Sending, refusing, responding, outgoing, send_of}
 use Rattle.link_send.specs.declared.Priority.{Priority}
 use Rattle.link_send.specs.declared.Priority.TheVariants.{Low, High}
 use Rattle.link_send.specs.declared.SendPhase.{SendPhase}
 use Rattle.link_send.specs.declared.SendPhase.TheVariants.{Fresh, Opening, Awaiting, Receiving, Sent, GaveUp}
 use Rattle.link_send.specs.declared.Sender.{Sender}
-use Rattle.link_send.specs.declared.SendAnswer.{SendAnswer}
-use Rattle.link_send.specs.declared.SendAnswer.TheVariants.{Message}
 use Rattle.link_send.specs.declared.SendEvent.{SendEvent}
 use Rattle.link_send.specs.declared.SendEvent.TheVariants.{Start, Byte, Timer}
 use Rattle.c_answer.specs.Answer.{kinds, refused}
@@ -166,10 +164,6 @@ ending_small (denied k) = tt
 
 pub send_small : (s : Sender) (e : SendEvent) (d buf out : List ℕ) → SmallResponse (send_of s e d buf out).outcome.reaction.response
 send_small s e d buf out = ending_small (send_ends s buf out e d)
-
--- and so do both numbers of a message
-pub message_small : (n count : ℕ) {a : SendAnswer} → SmallResponse (response_of a) → a ≡ Message n count → (n ≤ max_frame) × (count ≤ max_data)
-message_small n count small is = subst (λ (x : SendAnswer). SmallResponse (response_of x)) is small
 
 -- a value is told from a refusal
 pub value_bound : (n count : ℕ) → n ≤ max_frame → count ≤ max_data → of_response (delivers n count) < kinds

@@ -187,14 +187,16 @@ fn event_at(n: u32) -> SendEvent
 }
 
 // The answer to an event.
-fn of_answer(answer: SendAnswer) -> u64
+fn of_answer(answer: Result<SendAnswer, Refusal>) -> u64
     requires { SmallResponse (response_of answer) }
     ensures { result ≡ of_response (response_of answer) }
 {
     match answer {
-        SendAnswer::Send(n) => n as u64,
-        SendAnswer::Message(n, count) => n as u64 + 65536 * (count as u64 + 1),
-        SendAnswer::Refused(r) => c_answer::refused(r),
+        Ok(told) => match told.message {
+            None => told.sent as u64,
+            Some(count) => told.sent as u64 + 65536 * (count as u64 + 1),
+        },
+        Err(r) => c_answer::refused(r),
     }
 }
 

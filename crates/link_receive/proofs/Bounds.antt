@@ -5,23 +5,23 @@ use mathlib.Core.List.{List}
 use Prim.Native.Nat.{ℕ, ◌+◌, ◌≤◌, ◌<◌}
 use borrow.Author.Tests.{le-leb, lt-leb, lt-ltb, le-ltb}
 use lib.ListN.{length, set}
+use Rattle.std.specs.Prelude.{Some, None}
 use Rattle.link_receive.specs.Receive.{at, to, with, refuses, storing, no_room, store_of, against, event_of, receive_of}
 use Rattle.link_receive.specs.declared.Dle.TheVariants.{NotSeen}
 use Rattle.link_receive.specs.declared.LinkEvent.{LinkEvent}
 use Rattle.link_receive.specs.declared.LinkState.{LinkState}
 use Rattle.link_receive.specs.declared.Phase.TheVariants.{Inside}
-use Rattle.link_receive.specs.declared.Stored.TheVariants.{Kept, NoRoom}
 
 module _ (n c b : ℕ) (buf : List ℕ) where
-  pub store_full : length buf ≤ n → store_of n c b buf ≡ storing NoRoom buf
+  pub store_full : length buf ≤ n → store_of n c b buf ≡ storing None buf
   unfolding store_of no_room
   store_full h = simp (le-leb _ _ h)
 
-  pub store_limit : n < length buf → 1024 ≤ n → store_of n c b buf ≡ storing NoRoom buf
+  pub store_limit : n < length buf → 1024 ≤ n → store_of n c b buf ≡ storing None buf
   unfolding store_of no_room
   store_limit h k = simp (lt-leb _ _ h, le-leb _ _ k)
 
-  pub store_room : n < length buf → n < 1024 → store_of n c b buf ≡ storing (Kept (at (Inside NotSeen) (n + 1) c)) (set buf n b)
+  pub store_room : n < length buf → n < 1024 → store_of n c b buf ≡ storing (Some (at (Inside NotSeen) (n + 1) c)) (set buf n b)
   unfolding store_of no_room
   store_room h k = simp (lt-leb _ _ h, lt-leb _ _ k)
 

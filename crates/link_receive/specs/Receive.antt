@@ -1,9 +1,10 @@
 -- The receiving half of 3964R: what one event gives, row by row.
 -- Assumes nothing.
-use Rattle.std.specs.Prelude.{ℕ, ◌+◌, Bool, ◌||◌, List, ltb, leb, eqb, length, set}
+use Rattle.std.specs.Prelude.{ℕ, ◌+◌, Bool, ◌||◌, List, Option, Some, None, Result, Ok, Err, ltb, leb, eqb, length, set}
 use Rattle.std.specs.Int.Bits.{bit_xor}
 use Rattle.base.specs.Choice.{pick}
 use Rattle.refusal.specs.Numbers.{number_of}
+use Rattle.refusal.specs.declared.Refusal.{Refusal}
 use Rattle.link_frame.specs.ControlBytes.{STX, ETX, DLE, NAK}
 use Rattle.link_frame.specs.Frame.{max_data}
 use Rattle.link_receive.specs.declared.Dle.{Dle}
@@ -14,10 +15,8 @@ use Rattle.link_receive.specs.declared.LinkState.{LinkState}
 use Rattle.link_receive.specs.declared.LinkEvent.{LinkEvent}
 use Rattle.link_receive.specs.declared.LinkEvent.TheVariants.{Byte, Timer}
 use Rattle.link_receive.specs.declared.LinkAnswer.{LinkAnswer}
-use Rattle.link_receive.specs.declared.LinkAnswer.TheVariants.{Nothing, Send, Message, Refused}
+use Rattle.link_receive.specs.declared.LinkAnswer.TheVariants.{Nothing, Send, Message}
 use Rattle.link_receive.specs.declared.LinkStep.{LinkStep}
-use Rattle.link_receive.specs.declared.Stored.{Stored}
-use Rattle.link_receive.specs.declared.Stored.TheVariants.{Kept, NoRoom}
 
 -- what the half does for an event: nothing; it sends a byte; it sends a byte and delivers a message, the first so many
 -- bytes of the buffer; or it refuses the call with a number
@@ -28,11 +27,15 @@ pub data Response : Type 0 where
   refuses : ℕ → Response
 
 -- an answer in bytes and numbers; a message goes with a DLE
-abbrev pub response_of : LinkAnswer → Response
-response_of Nothing = nothing
-response_of (Send b) = sends b
-response_of (Message n) = delivers DLE n
-response_of (Refused r) = refuses (number_of r)
+abbrev pub told_by : LinkAnswer → Response
+told_by Nothing = nothing
+told_by (Send b) = sends b
+told_by (Message n) = delivers DLE n
+
+-- an answer, or a refusal's number
+abbrev pub response_of : Result LinkAnswer Refusal → Response
+response_of (Ok a) = told_by a
+response_of (Err r) = refuses (number_of r)
 
 -- the answer and the next state
 pub record Reaction : Type 0 where
@@ -78,20 +81,20 @@ no_room n buf = leb (length buf) n || leb max_data n
 
 -- storing a byte, and the buffer afterwards
 pub record Storing : Type 0 where
-  pub stored : Stored
+  pub stored : Option LinkState
   pub buffer : List ℕ
 
-abbrev pub storing : Stored → List ℕ → Storing
+abbrev pub storing : Option LinkState → List ℕ → Storing
 storing s buf = record { stored = s; buffer = buf }
 
 -- a byte is stored at the count, where there is room
 unfoldable pub store_of : ℕ → ℕ → ℕ → List ℕ → Storing
-store_of n c b buf = pick (no_room n buf) (storing NoRoom buf) (storing (Kept (at (Inside NotSeen) (n + 1) c)) (set buf n b))
+store_of n c b buf = pick (no_room n buf) (storing None buf) (storing (Some (at (Inside NotSeen) (n + 1) c)) (set buf n b))
 
 -- a stored byte is answered by nothing, no room by NAK and rest
-unfoldable pub after_store : Stored → Reaction
-after_store (Kept s) = to nothing s
-after_store NoRoom = resting (sends NAK)
+unfoldable pub after_store : Option LinkState → Reaction
+after_store (Some s) = to nothing s
+after_store None = resting (sends NAK)
 
 -- a data byte
 unfoldable pub data_of : ℕ → ℕ → ℕ → List ℕ → Outcome

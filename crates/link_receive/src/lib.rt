@@ -2,7 +2,7 @@
 #![tactic(auto)]
 
 ghost use Rattle.std.specs.Prelude.{◌≡◌};
-ghost use Rattle.link_receive.specs.Receive.{response_of, reaction_of, outcome_of, refuses, at, to, resting, rest_of, storing, store_of, data_of, inside_of, waiting_of, event_of, receive_of};
+ghost use Rattle.link_receive.specs.Receive.{told_by, reaction_of, outcome_of, refuses, at, to, resting, rest_of, storing, store_of, data_of, inside_of, waiting_of, event_of, receive_of};
 ghost use Rattle.link_receive.specs.declared.Phase.TheVariants.{Rest};
 
 use link_frame::MAX_DATA;
@@ -10,14 +10,14 @@ use link_frame::control::{DLE, ETX, NAK, STX};
 use refusal::Refusal;
 
 // Whether the byte before was a DLE that the next byte decides on.
-#[derive(Clone, Copy)]
+#[derive(Clone, Copy, Debug, PartialEq, Eq)]
 pub enum Dle {
     Seen,
     NotSeen,
 }
 
 // At rest, inside a block, or waiting for the check byte.
-#[derive(Clone, Copy)]
+#[derive(Clone, Copy, Debug, PartialEq, Eq)]
 pub enum Phase {
     Rest,
     Inside(Dle),
@@ -25,7 +25,7 @@ pub enum Phase {
 }
 
 // The number of data bytes stored and the running check, beside the phase.
-#[derive(Clone, Copy)]
+#[derive(Clone, Copy, Debug, PartialEq, Eq)]
 pub struct LinkState {
     pub count: usize,
     pub check: u8,
@@ -46,41 +46,33 @@ impl LinkState {
 }
 
 // A byte came, or the timer ran out.
-#[derive(Clone, Copy)]
+#[derive(Clone, Copy, Debug, PartialEq, Eq)]
 pub enum LinkEvent {
     Byte(u8),
     Timer,
 }
 
-// Nothing to send; a byte to send; a DLE to send and a message of so many bytes; a refusal.
-#[derive(Clone, Copy)]
+// Nothing to send; a byte to send; a DLE to send and a message of so many bytes.
+#[derive(Clone, Copy, Debug, PartialEq, Eq)]
 pub enum LinkAnswer {
     Nothing,
     Send(u8),
     Message(usize),
-    Refused(Refusal),
 }
 
 // The answer to an event, and the state after it.
-#[derive(Clone, Copy)]
+#[derive(Clone, Copy, Debug, PartialEq, Eq)]
 pub struct LinkStep {
-    pub answer: LinkAnswer,
+    pub answer: Result<LinkAnswer, Refusal>,
     pub state: LinkState,
-}
-
-// What storing a byte gives: the state after it, or no room.
-#[derive(Clone, Copy)]
-enum Stored {
-    Kept(LinkState),
-    NoRoom,
 }
 
 // An answer that leaves the half at rest.
 fn rest(answer: LinkAnswer) -> LinkStep
-    ensures { reaction_of result ≡ resting (response_of answer) }
+    ensures { reaction_of result ≡ resting (told_by answer) }
 {
     LinkStep {
-        answer,
+        answer: Ok(answer),
         state: LinkState::at_rest(),
     }
 }
@@ -91,7 +83,7 @@ fn rest_byte(b: u8) -> LinkStep
 {
     if b == STX {
         return LinkStep {
-            answer: LinkAnswer::Send(DLE),
+            answer: Ok(LinkAnswer::Send(DLE)),
             state: LinkState {
                 count: 0,
                 check: 0,
@@ -105,18 +97,18 @@ fn rest_byte(b: u8) -> LinkStep
     rest(LinkAnswer::Send(NAK))
 }
 
-// Stores b at the count.
-fn store(count: usize, check: u8, b: u8, buffer: &mut [u8]) -> Stored
+// Stores b at the count, where there is room, and gives the state after it.
+fn store(count: usize, check: u8, b: u8, buffer: &mut [u8]) -> Option<LinkState>
     ensures { storing result buffer.new ≡ store_of count check b buffer.old }
 {
     if buffer.len() <= count {
-        return Stored::NoRoom;
+        return None;
     }
     if MAX_DATA <= count {
-        return Stored::NoRoom;
+        return None;
     }
     buffer[count] = b;
-    Stored::Kept(LinkState {
+    Some(LinkState {
         count: count + 1,
         check,
         phase: Phase::Inside(Dle::NotSeen),
@@ -127,11 +119,11 @@ fn store(count: usize, check: u8, b: u8, buffer: &mut [u8]) -> Stored
 fn data_byte(count: usize, check: u8, b: u8, buffer: &mut [u8]) -> LinkStep
     ensures { outcome_of result buffer.new ≡ data_of count check b buffer.old }
 {
-    let Stored::Kept(state) = store(count, check, b, &mut *buffer) else {
+    let Some(state) = store(count, check, b, &mut *buffer) else {
         return rest(LinkAnswer::Send(NAK));
     };
     LinkStep {
-        answer: LinkAnswer::Nothing,
+        answer: Ok(LinkAnswer::Nothing),
         state,
     }
 }
@@ -144,7 +136,7 @@ fn inside_byte(dle: Dle, count: usize, check: u8, b: u8, buffer: &mut [u8]) -> L
         Dle::NotSeen => {
             if b == DLE {
                 return LinkStep {
-                    answer: LinkAnswer::Nothing,
+                    answer: Ok(LinkAnswer::Nothing),
                     state: LinkState {
                         count,
                         check,
@@ -160,7 +152,7 @@ fn inside_byte(dle: Dle, count: usize, check: u8, b: u8, buffer: &mut [u8]) -> L
             }
             if b == ETX {
                 return LinkStep {
-                    answer: LinkAnswer::Nothing,
+                    answer: Ok(LinkAnswer::Nothing),
                     state: LinkState {
                         count,
                         check,
@@ -211,7 +203,7 @@ fn refuse(state: LinkState) -> LinkStep
     ensures { reaction_of result ≡ to (refuses 1) state }
 {
     LinkStep {
-        answer: LinkAnswer::Refused(Refusal::Setup),
+        answer: Err(Refusal::Setup),
         state,
     }
 }

@@ -1,9 +1,10 @@
 -- The sending half of 3964R: what one event gives, row by row.
 -- Assumes nothing.
-use Rattle.std.specs.Prelude.{ℕ, ◌+◌, Bool, false, ◌||◌, List, [], ◌∷◌, ◌++◌, ltb, eqb, length}
+use Rattle.std.specs.Prelude.{ℕ, ◌+◌, Bool, false, ◌||◌, List, [], ◌∷◌, ◌++◌, Option, Some, None, Result, Ok, Err, ltb, eqb, length}
 use Rattle.base.specs.Choice.{pick}
 use Rattle.base.specs.Filling.{Given, filled, refused, Filling, fitted}
 use Rattle.refusal.specs.Numbers.{number_of}
+use Rattle.refusal.specs.declared.Refusal.{Refusal}
 use Rattle.link_frame.specs.ControlBytes.{STX, DLE}
 use Rattle.link_frame.specs.Frame.{frame_of, max_data}
 use Rattle.link_receive.specs.Receive as half
@@ -14,8 +15,6 @@ use Rattle.link_receive.specs.declared.LinkState.{LinkState}
 use Rattle.link_receive.specs.declared.Phase.{Phase}
 use Rattle.link_receive.specs.declared.Phase.TheVariants.{Rest, Inside, Waiting}
 use Rattle.link_send.specs.declared.Attempts.{Attempts}
-use Rattle.link_send.specs.declared.Delivery.{Delivery}
-use Rattle.link_send.specs.declared.Delivery.TheVariants.{NoMessage, MessageOf}
 use Rattle.link_send.specs.declared.Priority.{Priority}
 use Rattle.link_send.specs.declared.Priority.TheVariants.{Low, High}
 use Rattle.link_send.specs.declared.SendPhase.{SendPhase}
@@ -24,7 +23,6 @@ use Rattle.link_send.specs.declared.Sender.{Sender}
 use Rattle.link_send.specs.declared.SendEvent.{SendEvent}
 use Rattle.link_send.specs.declared.SendEvent.TheVariants.{Start, Byte, Timer}
 use Rattle.link_send.specs.declared.SendAnswer.{SendAnswer}
-use Rattle.link_send.specs.declared.SendAnswer.TheVariants.{Send, Message, Refused}
 use Rattle.link_send.specs.declared.SendStep.{SendStep}
 
 -- a part of what goes out: an "opening", the STX that asks for a connection; the byte by which a receiving end answers;
@@ -45,10 +43,10 @@ unfoldable pub bytes_of : List ℕ → List Part → List ℕ
 bytes_of d [] = []
 bytes_of d (p ∷ ps) = part_bytes d p ++ bytes_of d ps
 
--- what an event brings: what goes out, whether a message was received with it, and the next state
+-- what an event brings: what goes out, the length of a message that was received with it, if any, and the next state
 pub record Turn : Type 0 where
   pub parts : List Part
-  pub delivery : Delivery
+  pub delivery : Option ℕ
   pub next : Sender
 
 -- a turn, and the buffer after it
@@ -61,7 +59,7 @@ with t buf = record { turn = t; buffer = buf }
 
 -- a turn without a message
 abbrev pub sending : List Part → Sender → Turn
-sending ps s = record { parts = ps; delivery = NoMessage; next = s }
+sending ps s = record { parts = ps; delivery = None; next = s }
 
 -- so many attempts to connect, and to send the block
 abbrev pub attempts : ℕ → ℕ → Attempts
@@ -119,11 +117,11 @@ answer_parts (half.delivers b n) = answer_byte b ∷ []
 answer_parts (half.refuses k) = []
 
 -- the message that it delivers
-abbrev pub delivery_of : Response → Delivery
-delivery_of half.nothing = NoMessage
-delivery_of (half.sends b) = NoMessage
-delivery_of (half.delivers b n) = MessageOf n
-delivery_of (half.refuses k) = NoMessage
+abbrev pub delivery_of : Response → Option ℕ
+delivery_of half.nothing = None
+delivery_of (half.sends b) = None
+delivery_of (half.delivers b n) = Some n
+delivery_of (half.refuses k) = None
 
 -- the half's answer goes out, and more behind it
 abbrev pub relaying : Response → List Part → Sender → Turn
@@ -210,10 +208,14 @@ pub data SendResponse : Type 0 where
   delivers : ℕ → ℕ → SendResponse
   refuses : ℕ → SendResponse
 
-abbrev pub response_of : SendAnswer → SendResponse
-response_of (Send n) = sends n
-response_of (Message n count) = delivers n count
-response_of (Refused r) = refuses (number_of r)
+-- so many bytes to send, and the message
+abbrev pub responding : Option ℕ → ℕ → SendResponse
+responding None n = sends n
+responding (Some count) n = delivers n count
+
+abbrev pub response_of : Result SendAnswer Refusal → SendResponse
+response_of (Ok a) = responding a.message a.sent
+response_of (Err r) = refuses (number_of r)
 
 -- the answer and the next state
 pub record SendReaction : Type 0 where
@@ -247,11 +249,6 @@ refusing k s = record { response = refuses k; next = s }
 -- nothing goes out, and all stays as it was
 abbrev pub denied : ℕ → Sender → List ℕ → List ℕ → Sending
 denied k s buf out = record { parts = []; outcome = leaving (refusing k s) buf out }
-
--- so many bytes to send, and the message
-abbrev pub responding : Delivery → ℕ → SendResponse
-responding NoMessage n = sends n
-responding (MessageOf count) n = delivers n count
 
 -- the turn is done, with so many bytes to send
 abbrev pub done : Turn → ℕ → SendReaction

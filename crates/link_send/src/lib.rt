@@ -16,14 +16,14 @@ use link_receive::{Dle, LinkAnswer, LinkEvent, LinkState, Phase};
 use refusal::Refusal;
 
 // Numbers of attempts: to connect in one attempt to send the block, and to send the block.
-#[derive(Clone, Copy)]
+#[derive(Clone, Copy, Debug, PartialEq, Eq)]
 pub struct Attempts {
     pub connections: usize,
     pub blocks: usize,
 }
 
 // Which end of a cable yields where both have opened: the low one.
-#[derive(Clone, Copy)]
+#[derive(Clone, Copy, Debug, PartialEq, Eq)]
 pub enum Priority {
     Low,
     High,
@@ -31,7 +31,7 @@ pub enum Priority {
 
 // Not started; waiting for the answer to an opening; waiting for the answer to the block; receiving, after a yield; the block
 // was sent and answered; no attempts were left.
-#[derive(Clone, Copy)]
+#[derive(Clone, Copy, Debug, PartialEq, Eq)]
 pub enum SendPhase {
     Fresh,
     Opening,
@@ -42,7 +42,7 @@ pub enum SendPhase {
 }
 
 // A sender: how many attempts it may make, how many have failed, its priority, and its phase.
-#[derive(Clone, Copy)]
+#[derive(Clone, Copy, Debug, PartialEq, Eq)]
 pub struct Sender {
     pub limits: Attempts,
     pub failed: Attempts,
@@ -109,25 +109,24 @@ impl Sender {
 }
 
 // The caller has data to send; a byte came; the timer ran out.
-#[derive(Clone, Copy)]
+#[derive(Clone, Copy, Debug, PartialEq, Eq)]
 pub enum SendEvent {
     Start,
     Byte(u8),
     Timer,
 }
 
-// So many bytes to send, which may be none; so many bytes to send, and a message of so many; a refusal.
-#[derive(Clone, Copy)]
-pub enum SendAnswer {
-    Send(usize),
-    Message(usize, usize),
-    Refused(Refusal),
+// So many bytes to send, which may be none, and the length of a message, if one was received.
+#[derive(Clone, Copy, Debug, PartialEq, Eq)]
+pub struct SendAnswer {
+    pub sent: usize,
+    pub message: Option<usize>,
 }
 
 // The answer to an event, and the state after it.
-#[derive(Clone, Copy)]
+#[derive(Clone, Copy, Debug, PartialEq, Eq)]
 pub struct SendStep {
-    pub answer: SendAnswer,
+    pub answer: Result<SendAnswer, Refusal>,
     pub state: Sender,
 }
 
@@ -141,18 +140,11 @@ enum Going {
     Block,
 }
 
-// Whether a message was received, and how many bytes it has.
-#[derive(Clone, Copy)]
-pub enum Delivery {
-    NoMessage,
-    MessageOf(usize),
-}
-
-// What an event brings, before anything is written.
+// What an event brings, before anything is written: what goes out, the length of a message, and the next state.
 #[derive(Clone, Copy)]
 struct Plan {
     going: Going,
-    delivery: Delivery,
+    message: Option<usize>,
     next: Sender,
 }
 
@@ -162,7 +154,7 @@ fn without_message(going: Going, next: Sender) -> Plan
 {
     Plan {
         going,
-        delivery: Delivery::NoMessage,
+        message: None,
         next,
     }
 }
@@ -280,23 +272,22 @@ fn answering(b: u8, opens: bool) -> Going
 }
 
 // The half's answer goes out, and maybe an opening behind it.
-fn relay(answer: LinkAnswer, opens: bool, next: Sender) -> Plan
+fn relay(answer: Result<LinkAnswer, Refusal>, opens: bool, next: Sender) -> Plan
     ensures { turn_by result ≡ relaying (response_of answer) (behind opens) next }
 {
     match answer {
-        LinkAnswer::Nothing => without_message(silent(opens), next),
-        LinkAnswer::Send(b) => without_message(answering(b, opens), next),
-        LinkAnswer::Message(n) => Plan {
+        Ok(LinkAnswer::Nothing) | Err(_) => without_message(silent(opens), next),
+        Ok(LinkAnswer::Send(b)) => without_message(answering(b, opens), next),
+        Ok(LinkAnswer::Message(n)) => Plan {
             going: answering(Sender::DLE, opens),
-            delivery: Delivery::MessageOf(n),
+            message: Some(n),
             next,
         },
-        LinkAnswer::Refused(_) => without_message(silent(opens), next),
     }
 }
 
 // What follows the half's step, in a yield.
-fn after_half(state: Sender, answer: LinkAnswer, half: LinkState) -> Plan
+fn after_half(state: Sender, answer: Result<LinkAnswer, Refusal>, half: LinkState) -> Plan
     ensures { turn_by result ≡ after_half state (to (response_of answer) half) }
 {
     let failed = state.failed;
@@ -490,7 +481,7 @@ fn refuse(refusal: Refusal, state: Sender) -> SendStep
     ensures { reaction_of result ≡ refusing (number_of refusal) state }
 {
     SendStep {
-        answer: SendAnswer::Refused(refusal),
+        answer: Err(refusal),
         state,
     }
 }
@@ -500,21 +491,14 @@ fn finish(written: Result<usize, Refusal>, planned: Plan, state: Sender) -> Send
     ensures { reaction_of result ≡ finished (given_of written) (turn_by planned) state }
 {
     match written {
+        Ok(sent) => SendStep {
+            answer: Ok(SendAnswer {
+                sent,
+                message: planned.message,
+            }),
+            state: planned.next,
+        },
         Err(refusal) => refuse(refusal, state),
-        Ok(n) => {
-            let delivery = planned.delivery;
-            let next = planned.next;
-            match delivery {
-                Delivery::NoMessage => SendStep {
-                    answer: SendAnswer::Send(n),
-                    state: next,
-                },
-                Delivery::MessageOf(count) => SendStep {
-                    answer: SendAnswer::Message(n, count),
-                    state: next,
-                },
-            }
-        }
     }
 }
 

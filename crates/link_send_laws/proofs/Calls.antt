@@ -8,13 +8,12 @@ use native.Mathlib.Omega.{arith}
 use borrow.Author.Tests.{ltb-true, ltb-false}
 use lib.Dec.{ltb}
 use lib.ListN.{length}
+use Rattle.std.specs.Prelude.{Option, Some, None}
 use Rattle.base.specs.Places.{placed}
 use Rattle.base.specs.Filling.{Filling, fitted}
 use Rattle.base.proofs.Choice.{pick_by}
 use Rattle.link_frame.specs.Frame.{max_data}
 use Rattle.link_send.specs.Send.{bytes_of, in_phase, turn_of, misset, Sending, leaving, denied, responding, done, outgoing, send_of}
-use Rattle.link_send.specs.declared.Delivery.{Delivery}
-use Rattle.link_send.specs.declared.Delivery.TheVariants.{NoMessage, MessageOf}
 use Rattle.link_send.specs.declared.SendPhase.{SendPhase}
 use Rattle.link_send.specs.declared.Sender.{Sender}
 use Rattle.link_send.proofs.Refusals.{Sound, sound}
@@ -53,9 +52,9 @@ came s c =
     (λ less. short (ltb-true _ _ less))
     (λ room. turned (sound s c.buffer good) (ltb-false _ _ room))))
 
-told : (x : Delivery) (n : ℕ) → bytes_told (responding x n) ≡ n
-told NoMessage n = refl
-told (MessageOf count) n = refl
+told : (x : Option ℕ) (n : ℕ) → bytes_told (responding x n) ≡ n
+told None n = refl
+told (Some count) n = refl
 
 -- the bytes of what goes out are in the output
 module _ (s : Sender) (c : Call) where

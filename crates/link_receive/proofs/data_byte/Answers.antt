@@ -13,4 +13,4 @@ pub returns : goal.returns
 unfolding data_of after_store
 returns c =
     let told = c in
-    rw (← told.store.ensures, told.in-Kept.is)
+    rw (← told.store.ensures, told.in-Some.is)

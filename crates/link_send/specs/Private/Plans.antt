@@ -22,7 +22,7 @@ behind true = opening ∷ []
 behind false = []
 
 abbrev pub turn_by : Plan → Turn
-turn_by p = record { parts = parts_of p.going; delivery = p.delivery; next = p.next }
+turn_by p = record { parts = parts_of p.going; delivery = p.message; next = p.next }
 
 abbrev pub taken_by : Plan → List ℕ → Taken
 taken_by p buf = with (turn_by p) buf
