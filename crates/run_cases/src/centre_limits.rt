@@ -1,232 +1,280 @@
 // The centre's calls at their limits.
-use crate::limits::BEFORE;
 use crate::net_limits::names;
-use crate::{limits, parts, show, station_limits};
+use crate::station_limits;
 use mop_centre::{ReplyRead, ReplyVerdict};
-use streams::Screen;
+use show::{BEFORE, Bytes, Kept, Refused, Start, Written, first};
+use std::fmt;
+use std::io;
 
-// A request over the first n stations to read so many registers from 955 on and to write so many values from 300 on, into
-// an output of so many places; and all that it gives.
-fn write(
-    screen: &mut Screen,
-    stations: &[u8],
-    n: usize,
-    reads: usize,
-    writes: usize,
-    places: usize,
-) {
-    show::number(screen, reads);
-    show::number(screen, writes);
-    show::number(screen, places);
-    show::start(screen, stations, n, 16);
-    let mut words = [0xC3D4u16; 256];
+// A request over a route to read so many registers from 955 on and to write so many values from 300 on, into an output of so
+// many places; and all that it gives.
+fn write(rt: &impl Print, route: &[u8], reads: usize, writes: usize, places: usize) -> io::Result<()> {
+    let words = [0xC3D4u16; 256];
     let mut room = [BEFORE; 1025];
-    let route = parts::of(stations, n);
-    let values = parts::lent_words(&mut words, writes);
-    let out = parts::lent(&mut room, places);
-    let answer = mop_centre::write_request(route, 955, reads, 300, &*values, out);
-    let end = show::written(screen, answer, &room, 48);
-    limits::show_kept(screen, &room, end);
+    let out = &mut room[..places.min(1025)];
+    let answer = mop_centre::write_request(route, 955, reads, 300, first(&words, writes), out);
+    let stations = Start {
+        bytes: route,
+        most: 16,
+    };
+    let written = Written {
+        answer,
+        out: &room,
+        most: 48,
+    };
+    let kept = Kept {
+        buffer: &room,
+        from: answer.unwrap_or(0),
+    };
+    println!(rt; " {reads} {writes} {places}{stations}{written}{kept}")
 }
 
 // So many stations. The first 65 are different; behind them is station 1.
-fn route_case(screen: &mut Screen, n: usize, writes: usize, places: usize) {
+fn route_case(rt: &impl Print, n: usize, writes: usize, places: usize) -> io::Result<()> {
     let mut route = [1u8; 255];
     places::put(&names(), &mut route, 0);
-    write(screen, &route, n, 1, writes, places);
-}
-
-// Four stations.
-fn stations_case(screen: &mut Screen, first: u8, second: u8, third: u8, fourth: u8) {
-    write(screen, &[first, second, third, fourth], 4, 1, 1, 1024);
+    write(rt, first(&route, n), 1, writes, places)
 }
 
 // A route of nobody, of one station, or of that station twice.
 fn count_case(
-    screen: &mut Screen,
+    rt: &impl Print,
     station: u8,
     n: usize,
     reads: usize,
     writes: usize,
     places: usize,
-) {
-    write(screen, &[station; 2], n, reads, writes, places);
+) -> io::Result<()> {
+    write(rt, first(&[station; 2], n), reads, writes, places)
 }
 
-fn show_verdict(screen: &mut Screen, verdict: ReplyVerdict) {
-    match verdict {
-        ReplyVerdict::Accepted => show::text(screen, b": accepted"),
-        ReplyVerdict::NotMine => show::text(screen, b": not mine"),
-        ReplyVerdict::Refused(r) => show::refusal(screen, r),
+#[derive(Clone, Copy)]
+struct ShownVerdict(ReplyVerdict);
+
+impl fmt::Display for ShownVerdict {
+    fn fmt<W: fmt::Write>(&self, f: &mut fmt::Formatter<W>) -> fmt::Result {
+        match self.0 {
+            ReplyVerdict::Accepted => write!(f, ": accepted"),
+            ReplyVerdict::NotMine => write!(f, ": not mine"),
+            ReplyVerdict::Refused(r) => write!(f, "{}", Refused(r)),
+        }
     }
 }
 
-// What a reply says, but for its values.
-fn show_reply(screen: &mut Screen, reply: ReplyRead) {
-    let verdict = reply.verdict;
-    let route = reply.route;
-    show_verdict(screen, verdict);
-    show::text(screen, b"; route");
-    show::bytes(screen, &route);
-    show::text(screen, b"; run");
-    show::word(screen, reply.start);
-    show::number(screen, reply.count as usize);
-}
-
-// Reads the first n bytes of t as a reply, and shows what it says, with the start of its values.
-fn read(screen: &mut Screen, t: &[u8], n: usize) {
-    show::start(screen, t, n, 16);
-    let telegram = parts::of(t, n);
-    show_reply(screen, mop_centre::read_reply(telegram));
-    show::text(screen, b"; values");
-    show::bytes(
-        screen,
-        parts::of(mop_centre::read_reply_values(telegram), 16),
-    );
-    show::mark(screen, b'\n');
+// Reads a telegram as a reply, and shows what it says, with the start of its values.
+fn read(rt: &impl Print, telegram: &[u8]) -> io::Result<()> {
+    let reply = mop_centre::read_reply(telegram);
+    let values = mop_centre::read_reply_values(telegram);
+    let start = Start {
+        bytes: telegram,
+        most: 16,
+    };
+    print!(rt; "{start}{}", ShownVerdict(reply.verdict))?;
+    print!(rt; "; route{}; run {} {}", Bytes(&reply.route), reply.start, reply.count)?;
+    println!(rt; "; values{}", Bytes(first(values, 16)))
 }
 
 // So many bytes of a telegram with two entries, two 00s and a body: registers from 955 on, so many, and the first value.
-fn standard_case(screen: &mut Screen, function: u8, first: u8, second: u8, count: u8, n: usize) {
-    let mut t = station_limits::standard(function, first, second);
+fn standard_case(
+    rt: &impl Print,
+    function: u8,
+    station: u8,
+    second: u8,
+    count: u8,
+    n: usize,
+) -> io::Result<()> {
+    let mut t = station_limits::standard(function, station, second);
     places::put(&[0x03, 0xBB, count, 0xC3, 0xD4], &mut t, 6);
-    read(screen, &t, n);
+    read(rt, first(&t, n))
 }
 
 // So many bytes of an extended reply with this mark, its first two entries, and 00s.
-fn mark_case(screen: &mut Screen, mark: u8, count: u8, first: u8, second: u8, n: usize) {
-    read(
-        screen,
-        &station_limits::extended(0xE0, mark, count, first, second),
-        n,
-    );
+fn mark_case(rt: &impl Print, mark: u8, count: u8, station: u8, second: u8, n: usize) -> io::Result<()> {
+    let t = station_limits::extended(0xE0, mark, count, station, second);
+    read(rt, first(&t, n))
 }
 
 // A whole extended reply with so many entries, a 00 and different stations, and a body.
-fn full_case(screen: &mut Screen, entries: u8, count: u8) {
+fn full_case(rt: &impl Print, entries: u8, count: u8) -> io::Result<()> {
     let mut t = station_limits::extended(0xE0, 0, entries, 0, 0);
-    let n = entries as usize;
-    places::put(parts::of(&names(), n), &mut t, 8);
+    let n = usize::from(entries);
+    places::put(first(&names(), n), &mut t, 8);
     places::put(&[0x03, 0xBB, count, 0xC3, 0xD4], &mut t, 7 + n);
-    read(screen, &t, 10 + n + 2 * count as usize);
+    read(rt, first(&t, 10 + n + 2 * usize::from(count)))
 }
 
 // Lengths of the route; then its stations.
-pub(crate) fn routes(screen: &mut Screen) {
-    show::text(screen, b"write_request: reads, writes, places, route\n");
-    route_case(screen, 0, 1, 1024);
-    route_case(screen, 1, 1, 1024);
-    route_case(screen, 2, 1, 1024);
-    route_case(screen, 3, 1, 1024);
-    route_case(screen, 4, 1, 1024);
-    route_case(screen, 30, 0, 1024);
-    route_case(screen, 31, 0, 1024);
-    route_case(screen, 32, 0, 1024);
-    route_case(screen, 65, 0, 1024);
-    route_case(screen, 255, 0, 1024);
-    count_case(screen, 0, 1, 1, 1, 1024);
-    count_case(screen, 1, 1, 1, 1, 1024);
-    count_case(screen, 0xEF, 1, 1, 1, 1024);
-    count_case(screen, 240, 1, 1, 1, 1024);
-    count_case(screen, 241, 1, 1, 1, 1024);
-    count_case(screen, 255, 1, 1, 1, 1024);
-    stations_case(screen, 0x12, 0x13, 0xF0, 0x55);
-    stations_case(screen, 0x12, 0x13, 0x55, 0xF1);
-    stations_case(screen, 0xF1, 0x12, 0x13, 0x55);
-    stations_case(screen, 0x12, 0x13, 0x55, 0x00);
-    stations_case(screen, 0x00, 0x12, 0x13, 0x55);
-    stations_case(screen, 0x12, 0x12, 0x13, 0x55);
-    stations_case(screen, 0x12, 0x13, 0x55, 0x55);
-    stations_case(screen, 0x55, 0x12, 0x13, 0x55);
-    stations_case(screen, 0xEF, 0xEF, 0xEF, 0xEF);
+pub(crate) fn routes(rt: &impl Print) -> io::Result<()> {
+    println!(rt; "write_request: reads, writes, places, route")?;
+    for (n, writes) in [
+        (0, 1),
+        (1, 1),
+        (2, 1),
+        (3, 1),
+        (4, 1),
+        (30, 0),
+        (31, 0),
+        (32, 0),
+        (65, 0),
+        (255, 0)
+    ] {
+        route_case(rt, n, writes, 1024)?;
+    }
+    for station in [
+        0,
+        1,
+        0xEF,
+        240,
+        241,
+        255
+    ] {
+        count_case(rt, station, 1, 1, 1, 1024)?;
+    }
+    for route in [
+        [0x12, 0x13, 0xF0, 0x55],
+        [0x12, 0x13, 0x55, 0xF1],
+        [0xF1, 0x12, 0x13, 0x55],
+        [0x12, 0x13, 0x55, 0x00],
+        [0x00, 0x12, 0x13, 0x55],
+        [0x12, 0x12, 0x13, 0x55],
+        [0x12, 0x13, 0x55, 0x55],
+        [0x55, 0x12, 0x13, 0x55],
+        [0xEF, 0xEF, 0xEF, 0xEF]
+    ] {
+        write(rt, &route, 1, 1, 1024)?;
+    }
+    Ok(())
 }
 
 // Lengths of the runs; places of the output; then the refusals in their order: 5, 12, 11.
-pub(crate) fn requests(screen: &mut Screen) {
-    count_case(screen, 0x55, 1, 0, 0, 1024);
-    count_case(screen, 0x55, 1, 255, 0, 1024);
-    count_case(screen, 0x55, 1, 256, 0, 1024);
-    count_case(screen, 0x55, 1, 65536, 0, 1024);
-    count_case(screen, 0x55, 1, usize::MAX, 0, 1024);
-    count_case(screen, 0x55, 1, 0, 255, 1024);
-    count_case(screen, 0x55, 1, 0, 256, 1024);
-    count_case(screen, 0x55, 1, 255, 255, 1024);
-    count_case(screen, 0x55, 1, 256, 256, 1024);
-    route_case(screen, 1, 0, 0);
-    route_case(screen, 1, 0, 11);
-    route_case(screen, 1, 0, 12);
-    route_case(screen, 1, 0, 13);
-    route_case(screen, 3, 1, 13);
-    route_case(screen, 3, 1, 14);
-    route_case(screen, 4, 0, 17);
-    route_case(screen, 4, 0, 18);
-    route_case(screen, 31, 255, 554);
-    route_case(screen, 31, 255, 555);
-    count_case(screen, 0x55, 2, 256, 256, 0);
-    count_case(screen, 0x55, 2, 256, 0, 1024);
-    count_case(screen, 0x55, 2, 0, 256, 1024);
-    count_case(screen, 0x55, 2, 0, 0, 0);
-    count_case(screen, 0x55, 0, 256, 0, 0);
-    count_case(screen, 0x55, 1, 256, 0, 0);
-    count_case(screen, 0x55, 1, 0, 256, 0);
-    count_case(screen, 0x55, 1, 0, 0, 0);
+pub(crate) fn requests(rt: &impl Print) -> io::Result<()> {
+    for (reads, writes) in [
+        (0, 0),
+        (255, 0),
+        (256, 0),
+        (65536, 0),
+        (usize::MAX, 0),
+        (0, 255),
+        (0, 256),
+        (255, 255),
+        (256, 256)
+    ] {
+        count_case(rt, 0x55, 1, reads, writes, 1024)?;
+    }
+    for (n, writes, places) in [
+        (1, 0, 0),
+        (1, 0, 11),
+        (1, 0, 12),
+        (1, 0, 13),
+        (3, 1, 13),
+        (3, 1, 14),
+        (4, 0, 17),
+        (4, 0, 18),
+        (31, 255, 554),
+        (31, 255, 555)
+    ] {
+        route_case(rt, n, writes, places)?;
+    }
+    for (n, reads, writes, places) in [
+        (2, 256, 256, 0),
+        (2, 256, 0, 1024),
+        (2, 0, 256, 1024),
+        (2, 0, 0, 0),
+        (0, 256, 0, 0),
+        (1, 256, 0, 0),
+        (1, 0, 256, 0),
+        (1, 0, 0, 0)
+    ] {
+        count_case(rt, 0x55, n, reads, writes, places)?;
+    }
+    Ok(())
 }
 
 // Counts of entries; then blocks and marks.
-pub(crate) fn blocks(screen: &mut Screen) {
-    show::text(screen, b"read_reply: telegram\n");
-    standard_case(screen, 0xE0, 0x00, 0x55, 1, 11);
-    full_case(screen, 1, 1);
-    full_case(screen, 2, 1);
-    full_case(screen, 3, 1);
-    full_case(screen, 4, 1);
-    full_case(screen, 5, 1);
-    full_case(screen, 32, 1);
-    full_case(screen, 32, 255);
-    full_case(screen, 33, 1);
-    mark_case(screen, 0x00, 255, 0x00, 0x55, 265);
-    standard_case(screen, 0xE0, 0x00, 0xF0, 1, 11);
-    standard_case(screen, 0xE0, 0x00, 0xF1, 1, 11);
-    standard_case(screen, 0xE0, 0x00, 0x00, 1, 11);
-    mark_case(screen, 0x00, 2, 0x00, 0x00, 12);
-    mark_case(screen, 0xEF, 2, 0x00, 0x00, 12);
-    mark_case(screen, 0x00, 32, 0x00, 0x00, 42);
-    mark_case(screen, 0xEF, 32, 0x00, 0x00, 42);
-    mark_case(screen, 0xEF, 2, 0x00, 0x55, 12);
-    mark_case(screen, 0x00, 2, 0x55, 0x00, 12);
-    mark_case(screen, 0xEF, 2, 0x00, 0x55, 9);
-    standard_case(screen, 0xE0, 0x55, 0x00, 1, 11);
-    standard_case(screen, 0xE0, 0x55, 0x00, 1, 10);
-    standard_case(screen, 0xE0, 0x55, 0x00, 1, 6);
-    mark_case(screen, 0xEF, 2, 0x55, 0x00, 12);
-    mark_case(screen, 0xEF, 2, 0x55, 0x00, 9);
+pub(crate) fn blocks(rt: &impl Print) -> io::Result<()> {
+    println!(rt; "read_reply: telegram")?;
+    standard_case(rt, 0xE0, 0x00, 0x55, 1, 11)?;
+    for (entries, count) in [
+        (1, 1),
+        (2, 1),
+        (3, 1),
+        (4, 1),
+        (5, 1),
+        (32, 1),
+        (32, 255),
+        (33, 1)
+    ] {
+        full_case(rt, entries, count)?;
+    }
+    mark_case(rt, 0x00, 255, 0x00, 0x55, 265)?;
+    for second in [
+        0xF0,
+        0xF1,
+        0x00
+    ] {
+        standard_case(rt, 0xE0, 0x00, second, 1, 11)?;
+    }
+    for (mark, count, station, second, n) in [
+        (0x00, 2, 0x00, 0x00, 12),
+        (0xEF, 2, 0x00, 0x00, 12),
+        (0x00, 32, 0x00, 0x00, 42),
+        (0xEF, 32, 0x00, 0x00, 42),
+        (0xEF, 2, 0x00, 0x55, 12),
+        (0x00, 2, 0x55, 0x00, 12),
+        (0xEF, 2, 0x00, 0x55, 9)
+    ] {
+        mark_case(rt, mark, count, station, second, n)?;
+    }
+    for n in [
+        11,
+        10,
+        6
+    ] {
+        standard_case(rt, 0xE0, 0x55, 0x00, 1, n)?;
+    }
+    mark_case(rt, 0xEF, 2, 0x55, 0x00, 12)?;
+    mark_case(rt, 0xEF, 2, 0x55, 0x00, 9)
 }
 
 // Bodies of replies; then headers and lengths.
-pub(crate) fn replies(screen: &mut Screen) {
-    standard_case(screen, 0xE0, 0x00, 0x55, 0, 6);
-    standard_case(screen, 0xE0, 0x00, 0x55, 0, 8);
-    standard_case(screen, 0xE0, 0x00, 0x55, 0, 9);
-    standard_case(screen, 0xE0, 0x00, 0x55, 0, 10);
-    standard_case(screen, 0xE0, 0x00, 0x55, 1, 9);
-    standard_case(screen, 0xE0, 0x00, 0x55, 1, 10);
-    standard_case(screen, 0xE0, 0x00, 0x55, 1, 12);
-    standard_case(screen, 0xE0, 0x00, 0x55, 255, 518);
-    standard_case(screen, 0xE0, 0x00, 0x55, 255, 519);
-    standard_case(screen, 0xE0, 0x00, 0x55, 255, 520);
-    mark_case(screen, 0x00, 2, 0x00, 0x55, 9);
-    mark_case(screen, 0x00, 2, 0x00, 0x55, 11);
-    mark_case(screen, 0x00, 2, 0x00, 0x55, 12);
-    mark_case(screen, 0x00, 2, 0x00, 0x55, 13);
-    standard_case(screen, 0xE0, 0x00, 0x55, 0, 0);
-    standard_case(screen, 0xE0, 0x00, 0x55, 0, 5);
-    mark_case(screen, 0x00, 2, 0x00, 0x55, 6);
-    mark_case(screen, 0x00, 2, 0x00, 0x55, 8);
-    standard_case(screen, 0x60, 0x55, 0x00, 1, 5);
-    standard_case(screen, 0x60, 0x55, 0x00, 1, 11);
-    standard_case(screen, 0x60, 0x00, 0x55, 1, 11);
-    standard_case(screen, 0xE1, 0x00, 0x55, 1, 11);
-    standard_case(screen, 0xE0, 0x00, 0x55, 1, 1024);
-    standard_case(screen, 0xE0, 0x00, 0x55, 1, 1025);
-    standard_case(screen, 0x60, 0x55, 0x00, 1, 1025);
+pub(crate) fn replies(rt: &impl Print) -> io::Result<()> {
+    for (count, n) in [
+        (0, 6),
+        (0, 8),
+        (0, 9),
+        (0, 10),
+        (1, 9),
+        (1, 10),
+        (1, 12),
+        (255, 518),
+        (255, 519),
+        (255, 520)
+    ] {
+        standard_case(rt, 0xE0, 0x00, 0x55, count, n)?;
+    }
+    for n in [
+        9,
+        11,
+        12,
+        13
+    ] {
+        mark_case(rt, 0x00, 2, 0x00, 0x55, n)?;
+    }
+    standard_case(rt, 0xE0, 0x00, 0x55, 0, 0)?;
+    standard_case(rt, 0xE0, 0x00, 0x55, 0, 5)?;
+    mark_case(rt, 0x00, 2, 0x00, 0x55, 6)?;
+    mark_case(rt, 0x00, 2, 0x00, 0x55, 8)?;
+    for (function, station, second, n) in [
+        (0x60, 0x55, 0x00, 5),
+        (0x60, 0x55, 0x00, 11),
+        (0x60, 0x00, 0x55, 11),
+        (0xE1, 0x00, 0x55, 11),
+        (0xE0, 0x00, 0x55, 1024),
+        (0xE0, 0x00, 0x55, 1025),
+        (0x60, 0x55, 0x00, 1025)
+    ] {
+        standard_case(rt, function, station, second, 1, n)?;
+    }
+    Ok(())
 }
+
