@@ -3,12 +3,17 @@ use crate::net_limits::names;
 use crate::station_limits;
 use mop_centre::{ReplyRead, ReplyVerdict};
 use show::{BEFORE, Bytes, Kept, Refused, Start, Written, first};
-use std::fmt;
-use std::io;
+use std::{fmt, io};
 
 // A request over a route to read so many registers from 955 on and to write so many values from 300 on, into an output of so
 // many places; and all that it gives.
-fn write(rt: &impl Print, route: &[u8], reads: usize, writes: usize, places: usize) -> io::Result<()> {
+fn write(
+    rt: &impl Print,
+    route: &[u8],
+    reads: usize,
+    writes: usize,
+    places: usize,
+) -> io::Result<()> {
     let words = [0xC3D4u16; 256];
     let mut room = [BEFORE; 1025];
     let out = &mut room[..places.min(1025)];
@@ -70,7 +75,12 @@ fn read(rt: &impl Print, telegram: &[u8]) -> io::Result<()> {
         most: 16,
     };
     print!(rt; "{start}{}", ShownVerdict(reply.verdict))?;
-    print!(rt; "; route{}; run {} {}", Bytes(&reply.route), reply.start, reply.count)?;
+    print!(rt;
+        "; route{}; run {} {}",
+        Bytes(&reply.route),
+        reply.start,
+        reply.count
+    )?;
     println!(rt; "; values{}", Bytes(first(values, 16)))
 }
 
@@ -89,7 +99,14 @@ fn standard_case(
 }
 
 // So many bytes of an extended reply with this mark, its first two entries, and 00s.
-fn mark_case(rt: &impl Print, mark: u8, count: u8, station: u8, second: u8, n: usize) -> io::Result<()> {
+fn mark_case(
+    rt: &impl Print,
+    mark: u8,
+    count: u8,
+    station: u8,
+    second: u8,
+    n: usize,
+) -> io::Result<()> {
     let t = station_limits::extended(0xE0, mark, count, station, second);
     read(rt, first(&t, n))
 }
@@ -116,18 +133,11 @@ pub(crate) fn routes(rt: &impl Print) -> io::Result<()> {
         (31, 0),
         (32, 0),
         (65, 0),
-        (255, 0)
+        (255, 0),
     ] {
         route_case(rt, n, writes, 1024)?;
     }
-    for station in [
-        0,
-        1,
-        0xEF,
-        240,
-        241,
-        255
-    ] {
+    for station in [0, 1, 0xEF, 240, 241, 255] {
         count_case(rt, station, 1, 1, 1, 1024)?;
     }
     for route in [
@@ -139,7 +149,7 @@ pub(crate) fn routes(rt: &impl Print) -> io::Result<()> {
         [0x12, 0x12, 0x13, 0x55],
         [0x12, 0x13, 0x55, 0x55],
         [0x55, 0x12, 0x13, 0x55],
-        [0xEF, 0xEF, 0xEF, 0xEF]
+        [0xEF, 0xEF, 0xEF, 0xEF],
     ] {
         write(rt, &route, 1, 1, 1024)?;
     }
@@ -157,7 +167,7 @@ pub(crate) fn requests(rt: &impl Print) -> io::Result<()> {
         (0, 255),
         (0, 256),
         (255, 255),
-        (256, 256)
+        (256, 256),
     ] {
         count_case(rt, 0x55, 1, reads, writes, 1024)?;
     }
@@ -171,7 +181,7 @@ pub(crate) fn requests(rt: &impl Print) -> io::Result<()> {
         (4, 0, 17),
         (4, 0, 18),
         (31, 255, 554),
-        (31, 255, 555)
+        (31, 255, 555),
     ] {
         route_case(rt, n, writes, places)?;
     }
@@ -183,7 +193,7 @@ pub(crate) fn requests(rt: &impl Print) -> io::Result<()> {
         (0, 256, 0, 0),
         (1, 256, 0, 0),
         (1, 0, 256, 0),
-        (1, 0, 0, 0)
+        (1, 0, 0, 0),
     ] {
         count_case(rt, 0x55, n, reads, writes, places)?;
     }
@@ -202,16 +212,12 @@ pub(crate) fn blocks(rt: &impl Print) -> io::Result<()> {
         (5, 1),
         (32, 1),
         (32, 255),
-        (33, 1)
+        (33, 1),
     ] {
         full_case(rt, entries, count)?;
     }
     mark_case(rt, 0x00, 255, 0x00, 0x55, 265)?;
-    for second in [
-        0xF0,
-        0xF1,
-        0x00
-    ] {
+    for second in [0xF0, 0xF1, 0x00] {
         standard_case(rt, 0xE0, 0x00, second, 1, 11)?;
     }
     for (mark, count, station, second, n) in [
@@ -221,15 +227,11 @@ pub(crate) fn blocks(rt: &impl Print) -> io::Result<()> {
         (0xEF, 32, 0x00, 0x00, 42),
         (0xEF, 2, 0x00, 0x55, 12),
         (0x00, 2, 0x55, 0x00, 12),
-        (0xEF, 2, 0x00, 0x55, 9)
+        (0xEF, 2, 0x00, 0x55, 9),
     ] {
         mark_case(rt, mark, count, station, second, n)?;
     }
-    for n in [
-        11,
-        10,
-        6
-    ] {
+    for n in [11, 10, 6] {
         standard_case(rt, 0xE0, 0x55, 0x00, 1, n)?;
     }
     mark_case(rt, 0xEF, 2, 0x55, 0x00, 12)?;
@@ -248,16 +250,11 @@ pub(crate) fn replies(rt: &impl Print) -> io::Result<()> {
         (1, 12),
         (255, 518),
         (255, 519),
-        (255, 520)
+        (255, 520),
     ] {
         standard_case(rt, 0xE0, 0x00, 0x55, count, n)?;
     }
-    for n in [
-        9,
-        11,
-        12,
-        13
-    ] {
+    for n in [9, 11, 12, 13] {
         mark_case(rt, 0x00, 2, 0x00, 0x55, n)?;
     }
     standard_case(rt, 0xE0, 0x00, 0x55, 0, 0)?;
@@ -271,10 +268,9 @@ pub(crate) fn replies(rt: &impl Print) -> io::Result<()> {
         (0xE1, 0x00, 0x55, 11),
         (0xE0, 0x00, 0x55, 1024),
         (0xE0, 0x00, 0x55, 1025),
-        (0x60, 0x55, 0x00, 1025)
+        (0x60, 0x55, 0x00, 1025),
     ] {
         standard_case(rt, function, station, second, 1, n)?;
     }
     Ok(())
 }
-

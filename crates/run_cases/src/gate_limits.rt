@@ -4,8 +4,7 @@ use gate_commands::{GateRegisters, OperateAnswer};
 use gate_receive::{GateAnswer, GateEvent, GateState};
 use gate_refusal::GateRefusal;
 use show::{BEFORE, Kept, Refused, Start, Written, first, first_other};
-use std::fmt;
-use std::io;
+use std::{fmt, io};
 
 // The answer of a call that writes, with the end of what is written, and how far the output is as before behind it.
 #[derive(Clone, Copy)]
@@ -30,15 +29,18 @@ impl fmt::Display for ShownOutput<'_> {
 }
 
 // Writes a telegram with n bytes of data into an output of so many places, and shows all that it gives.
-fn write_case(rt: &impl Print, destination: u8, source: u8, n: usize, places: usize) -> io::Result<()> {
+fn write_case(
+    rt: &impl Print,
+    destination: u8,
+    source: u8,
+    n: usize,
+    places: usize,
+) -> io::Result<()> {
     let src = [0xA5u8; 256];
     let mut room = [BEFORE; 260];
     let out = &mut room[..places.min(260)];
     let answer = gate_telegram::write(destination, source, first(&src, n), out);
-    let shown = ShownOutput {
-        answer,
-        out: &room,
-    };
+    let shown = ShownOutput { answer, out: &room };
     println!(rt; " {destination:02X} {source:02X} {n} {places}{shown}")
 }
 
@@ -54,9 +56,24 @@ impl fmt::Display for ShownState {
             GateState::Rest => ('R', 0, 0, 0, 0),
             GateState::AtDestination => ('T', 0, 0, 0, 0),
             GateState::AtSource { destination, .. } => ('F', destination, 0, 0, 0),
-            GateState::AtLength { destination, source, .. } => ('L', destination, source, 0, 0),
-            GateState::AtData { destination, source, size, stored, .. } => ('D', destination, source, size, stored),
-            GateState::AtLowCheck { destination, source, size, .. } => ('C', destination, source, size, 0),
+            GateState::AtLength {
+                destination,
+                source,
+                ..
+            } => ('L', destination, source, 0, 0),
+            GateState::AtData {
+                destination,
+                source,
+                size,
+                stored,
+                ..
+            } => ('D', destination, source, size, stored),
+            GateState::AtLowCheck {
+                destination,
+                source,
+                size,
+                ..
+            } => ('C', destination, source, size, 0),
             GateState::OthersSource => ('S', 0, 0, 0, 0),
             GateState::OthersLength => ('N', 0, 0, 0, 0),
             GateState::Dropping { left } => ('X', 0, 0, 0, left),
@@ -72,7 +89,10 @@ impl fmt::Display for ShownAnswer {
     fn fmt<W: fmt::Write>(&self, f: &mut fmt::Formatter<W>) -> fmt::Result {
         match self.0 {
             Ok(GateAnswer::Nothing) => write!(f, ": nothing"),
-            Ok(GateAnswer::Telegram { source, size }) => write!(f, ": telegram {source:02X} {size}"),
+            Ok(GateAnswer::Telegram { source, size }) => write!(
+                f,
+                ": telegram {source:02X} {size}"
+            ),
             Ok(GateAnswer::Token { source }) => write!(f, ": token {source:02X}"),
             Err(r) => write!(f, "{}", Refused(r)),
         }
@@ -81,7 +101,14 @@ impl fmt::Display for ShownAnswer {
 
 // A byte at a state, with a store and an output of so many places, and what it gives: the answer; the state, and how many
 // places of the output are out of the store; and how far the store is as before.
-fn byte_case(rt: &impl Print, own: u8, state: GateState, lent: usize, b: u8, places: usize) -> io::Result<()> {
+fn byte_case(
+    rt: &impl Print,
+    own: u8,
+    state: GateState,
+    lent: usize,
+    b: u8,
+    places: usize,
+) -> io::Result<()> {
     let mut all = [BEFORE; 254];
     let mut room = [0u8; 254];
     let store = &mut all[..lent.min(254)];
@@ -180,7 +207,7 @@ pub(crate) fn telegrams(rt: &impl Print) -> io::Result<()> {
         (0x00, 0x01, 0, 6),
         (0x0F, 0x0F, 0, 6),
         (0x10, 0x00, 0, 6),
-        (0x00, 0x10, 0, 5)
+        (0x00, 0x10, 0, 5),
     ] {
         write_case(rt, destination, source, n, places)?;
     }
@@ -189,8 +216,14 @@ pub(crate) fn telegrams(rt: &impl Print) -> io::Result<()> {
 
 // Length bytes, for us and for another; own addresses; lengths of the store; and what is left to drop.
 pub(crate) fn bytes(rt: &impl Print) -> io::Result<()> {
-    println!(rt; "gate receive: own, phase, destination, source, length, count, store, places, byte")?;
-    let awaited = GateState::AtLength { destination: 0x10, source: 0x00, check: 0x1234, };
+    println!(rt;
+        "gate receive: own, phase, destination, source, length, count, store, places, byte"
+    )?;
+    let awaited = GateState::AtLength {
+        destination: 0x10,
+        source: 0x00,
+        check: 0x1234,
+    };
     for (own, state, lent, b) in [
         (0x10, awaited, 253, 253),
         (0x10, awaited, 253, 254),
@@ -205,7 +238,7 @@ pub(crate) fn bytes(rt: &impl Print) -> io::Result<()> {
         (0x10, GateState::Dropping { left: 1 }, 253, 0x55),
         (0x10, GateState::Dropping { left: 2 }, 253, 0x55),
         (0x10, GateState::Dropping { left: 257 }, 253, 0x55),
-        (0x10, GateState::Dropping { left: 258 }, 253, 0x55)
+        (0x10, GateState::Dropping { left: 258 }, 253, 0x55),
     ] {
         byte_case(rt, own, state, lent, b, 253)?;
     }
@@ -214,12 +247,7 @@ pub(crate) fn bytes(rt: &impl Print) -> io::Result<()> {
 
 // Data bytes, and last bytes.
 pub(crate) fn ends(rt: &impl Print) -> io::Result<()> {
-    for (stored, size) in [
-        (252, 253),
-        (253, 253),
-        (254, 253),
-        (0, 254)
-    ] {
+    for (stored, size) in [(252, 253), (253, 253), (254, 253), (0, 254)] {
         data_case(rt, stored, size)?;
     }
     for (destination, source, size, low, places) in [
@@ -232,7 +260,7 @@ pub(crate) fn ends(rt: &impl Print) -> io::Result<()> {
         (0x10, 0xFF, 1, 0x35, 0),
         (0x0F, 0x0F, 0, 0x34, 0),
         (0x0F, 0x10, 0, 0x34, 0),
-        (0x10, 0x0F, 0, 0x34, 0)
+        (0x10, 0x0F, 0, 0x34, 0),
     ] {
         last_case(rt, destination, source, size, low, places)?;
     }
@@ -242,12 +270,7 @@ pub(crate) fn ends(rt: &impl Print) -> io::Result<()> {
 // Commands and functions; then positions.
 pub(crate) fn barrier(rt: &impl Print) -> io::Result<()> {
     println!(rt; "gate operate: command, function")?;
-    for (command, function) in [
-        (0x09, 0x02),
-        (0x09, 0x03),
-        (0x0A, 0x02),
-        (0x0A, 0x03)
-    ] {
+    for (command, function) in [(0x09, 0x02), (0x09, 0x03), (0x0A, 0x02), (0x0A, 0x03)] {
         command_case(rt, command, function)?;
     }
     println!(rt; "gate write_answer: position, places")?;
@@ -258,7 +281,7 @@ pub(crate) fn barrier(rt: &impl Print) -> io::Result<()> {
         (0x00, 0, 2),
         (0x64, 100, 2),
         (0x65, 101, 1),
-        (0x7F, 127, 2)
+        (0x7F, 127, 2),
     ] {
         position_case(rt, b, z, places)?;
     }
@@ -284,10 +307,9 @@ pub(crate) fn answers(rt: &impl Print) -> io::Result<()> {
         (0x1D, 0x65, 2),
         (0x1D, 0x64, 2),
         (0x1D, 0xFE, 2),
-        (0x1D, 0xFF, 2)
+        (0x1D, 0xFF, 2),
     ] {
         read_case(rt, kind, other, n)?;
     }
     Ok(())
 }
-

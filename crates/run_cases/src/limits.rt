@@ -1,8 +1,8 @@
 // The link's calls at their limits.
 use link_receive::{Dle, LinkAnswer, LinkEvent, LinkState, Phase};
+use refusal::Refusal;
 use show::{BEFORE, Bytes, Half, Kept, Refused, Written, first};
-use std::fmt;
-use std::io;
+use std::{fmt, io};
 
 #[derive(Clone, Copy)]
 struct ShownEvent(LinkEvent);
@@ -19,17 +19,21 @@ impl fmt::Display for ShownEvent {
 // The answer of a receiving half, with the message.
 #[derive(Clone, Copy)]
 pub(crate) struct ShownAnswer<'a> {
-    pub(crate) answer: LinkAnswer,
+    pub(crate) answer: Result<LinkAnswer, Refusal>,
     pub(crate) buffer: &'a [u8],
 }
 
 impl fmt::Display for ShownAnswer<'_> {
     fn fmt<W: fmt::Write>(&self, f: &mut fmt::Formatter<W>) -> fmt::Result {
         match self.answer {
-            LinkAnswer::Nothing => write!(f, ": nothing"),
-            LinkAnswer::Send(b) => write!(f, ": sends {b:02X}"),
-            LinkAnswer::Message(n) => write!(f, ": sends 10, message of {n}{}", Bytes(first(self.buffer, n))),
-            LinkAnswer::Refused(r) => write!(f, "{}", Refused(r)),
+            Ok(LinkAnswer::Nothing) => write!(f, ": nothing"),
+            Ok(LinkAnswer::Send(b)) => write!(f, ": sends {b:02X}"),
+            Ok(LinkAnswer::Message(n)) => write!(
+                f,
+                ": sends 10, message of {n}{}",
+                Bytes(first(self.buffer, n))
+            ),
+            Err(r) => write!(f, "{}", Refused(r)),
         }
     }
 }
@@ -53,7 +57,13 @@ fn frame_case(rt: &impl Print, value: u8, n: usize, places: usize) -> io::Result
 }
 
 // One event at a phase with a count and check 44, with a buffer of so many places, and all that it gives.
-fn event_case(rt: &impl Print, phase: Phase, count: usize, event: LinkEvent, places: usize) -> io::Result<()> {
+fn event_case(
+    rt: &impl Print,
+    phase: Phase,
+    count: usize,
+    event: LinkEvent,
+    places: usize,
+) -> io::Result<()> {
     let state = LinkState {
         count,
         check: 0x44,
@@ -69,7 +79,12 @@ fn event_case(rt: &impl Print, phase: Phase, count: usize, event: LinkEvent, pla
         buffer: &room,
         from: 0,
     };
-    println!(rt; "{} {places}{}{answer};{}{kept}", Half(state), ShownEvent(event), Half(step.state))
+    println!(rt;
+        "{} {places}{}{answer};{}{kept}",
+        Half(state),
+        ShownEvent(event),
+        Half(step.state)
+    )
 }
 
 // A byte of each kind, and the timer, where there is room; then the same phase at the limits of its buffer.

@@ -4,11 +4,18 @@ use link_frame::control::STX;
 use link_receive::{LinkEvent, LinkState};
 use show::{Written, first};
 use std::io;
+use std::io::Read;
 
 // Feeds one byte to the half, and shows byte and answer on a line.
 fn feed_byte(rt: &impl Print, state: LinkState, b: u8, buffer: &mut [u8]) -> io::Result<LinkState> {
     let step = link_receive::receive(state, LinkEvent::Byte(b), buffer);
-    println!(rt; "fed {b:02X}{}", ShownAnswer { answer: step.answer, buffer })?;
+    println!(rt;
+        "fed {b:02X}{}",
+        ShownAnswer {
+            answer: step.answer,
+            buffer
+        }
+    )?;
     Ok(step.state)
 }
 
@@ -38,7 +45,14 @@ pub(crate) fn frame(rt: &HostRuntime) -> io::Result<()> {
     let n = streams::read_full(&mut rt.stdin(), &mut input)?;
     let mut out = [0u8; 2051];
     let answer = link_frame::frame(&input[..n], &mut out);
-    println!(rt; "frame{}", Written { answer, out: &out, most: 2051 })?;
+    println!(rt;
+        "frame{}",
+        Written {
+            answer,
+            out: &out,
+            most: 2051
+        }
+    )?;
     match answer {
         Ok(end) => feed_frame(rt, first(&out, end)),
         Err(_) => Ok(()),

@@ -5,8 +5,7 @@ use mop_registers::TABLE_LENGTH;
 use net_dry_run::DryRunAnswer;
 use net_hop::JourneyEnd;
 use show::{BEFORE, Kept, Refused, Start, first, first_other, last};
-use std::fmt;
-use std::io;
+use std::{fmt, io};
 
 // Sixty-five addresses in no order, no two equal; the 64th is 55.
 pub(crate) fn names() -> [u8; 65] {
@@ -43,7 +42,12 @@ impl fmt::Display for ShownAnswer<'_> {
                     bytes: first(self.out, n),
                     most: 64,
                 };
-                write!(f, ": played {count}{}; last{start}; 00 to {}", Ending(ending), first_other(self.out, n, 0))
+                write!(
+                    f,
+                    ": played {count}{}; last{start}; 00 to {}",
+                    Ending(ending),
+                    first_other(self.out, n, 0)
+                )
             }
             DryRunAnswer::Refused(r) => write!(f, "{}", Refused(r)),
         }
@@ -51,7 +55,13 @@ impl fmt::Display for ShownAnswer<'_> {
 }
 
 // A dry run with so many places of the tables and of an output; and all that it gives. Where it is played it answers 1,024 places.
-fn run(rt: &impl Print, addresses: &[u8], lent: usize, telegram: &[u8], places: usize) -> io::Result<()> {
+fn run(
+    rt: &impl Print,
+    addresses: &[u8],
+    lent: usize,
+    telegram: &[u8],
+    places: usize,
+) -> io::Result<()> {
     let mut values = station_limits::tables_before();
     let mut room = [BEFORE; 1025];
     let tables = &mut values[..lent.min(PLACES)];
@@ -66,10 +76,7 @@ fn run(rt: &impl Print, addresses: &[u8], lent: usize, telegram: &[u8], places: 
         most: 16,
     };
     print!(rt; "{net}; {lent} {places}{start}")?;
-    let shown = ShownAnswer {
-        answer,
-        out: &room,
-    };
+    let shown = ShownAnswer { answer, out: &room };
     let kept = Kept {
         buffer: &room,
         from: match answer {
@@ -134,8 +141,20 @@ fn fault_case(
 }
 
 // The same, and then with each fault that is looked for before.
-fn order_case(rt: &impl Print, function: u8, count: u8, station: u8, second: u8, n: usize) -> io::Result<()> {
-    for (lent, n, places) in [(PAIR, n, 1024), (PAIR, 1025, 1024), (PAIR, n, 1023), (LESS, n, 1024)] {
+fn order_case(
+    rt: &impl Print,
+    function: u8,
+    count: u8,
+    station: u8,
+    second: u8,
+    n: usize,
+) -> io::Result<()> {
+    for (lent, n, places) in [
+        (PAIR, n, 1024),
+        (PAIR, 1025, 1024),
+        (PAIR, n, 1023),
+        (LESS, n, 1024),
+    ] {
         fault_case(rt, lent, function, count, station, second, n, places)?;
     }
     Ok(())
@@ -163,7 +182,7 @@ pub(crate) fn setups(rt: &impl Print) -> io::Result<()> {
         (0x55, PAIR, 1025, 1023),
         (0x55, LESS, 1025, 1024),
         (0x55, LESS, 12, 1023),
-        (0x55, LESS, 1025, 1023)
+        (0x55, LESS, 1025, 1023),
     ] {
         pair_case(rt, second, lent, n, places)?;
     }
@@ -179,7 +198,7 @@ pub(crate) fn counts(rt: &impl Print) -> io::Result<()> {
         (64, MOST),
         (64, MOST + 1),
         (65, MOST),
-        (65, MOST + TABLE_LENGTH)
+        (65, MOST + TABLE_LENGTH),
     ] {
         count_case(rt, n, lent)?;
     }
@@ -187,7 +206,7 @@ pub(crate) fn counts(rt: &impl Print) -> io::Result<()> {
         (65, 31, 31 * TABLE_LENGTH),
         (65, 64, MOST),
         (65, 30, 30 * TABLE_LENGTH),
-        (64, 31, 31 * TABLE_LENGTH)
+        (64, 31, 31 * TABLE_LENGTH),
     ] {
         route_case(rt, names_left, n, lent)?;
     }
@@ -200,7 +219,7 @@ pub(crate) fn orders(rt: &impl Print) -> io::Result<()> {
         (0x61, 2, 0x12, 0, 15),
         (0x60, 33, 0x12, 0, 46),
         (0x60, 3, 0x12, 0x12, 16),
-        (0xE0, 3, 0, 0x12, 16)
+        (0xE0, 3, 0, 0x12, 16),
     ] {
         order_case(rt, function, count, station, second, n)?;
     }
@@ -216,10 +235,9 @@ pub(crate) fn orders(rt: &impl Print) -> io::Result<()> {
         (0x60, 33, 0x12, 0x12, 46),
         (0xE0, 33, 0, 0x12, 46),
         (0xE0, 3, 0, 0xF1, 16),
-        (0xE0, 3, 0x12, 0, 16)
+        (0xE0, 3, 0x12, 0, 16),
     ] {
         fault_case(rt, PAIR, function, count, station, second, n, 1024)?;
     }
     Ok(())
 }
-

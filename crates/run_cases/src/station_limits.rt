@@ -2,9 +2,7 @@
 use mop_registers::TABLE_LENGTH;
 use mop_station::StationAnswer;
 use show::{BEFORE, Kept, Refused, Start, first};
-use std::array;
-use std::fmt;
-use std::io;
+use std::{array, fmt, io};
 
 // The places of all tables: those of 65 stations, and one more.
 pub(crate) const PLACES: usize = 65 * TABLE_LENGTH + 1;
@@ -55,7 +53,14 @@ struct Sent<'a> {
 impl fmt::Display for Sent<'_> {
     fn fmt<W: fmt::Write>(&self, f: &mut fmt::Formatter<W>) -> fmt::Result {
         match self.answer {
-            StationAnswer::Sent(n) => write!(f, ": sent{}", Start { bytes: first(self.out, n), most: 32 }),
+            StationAnswer::Sent(n) => write!(
+                f,
+                ": sent{}",
+                Start {
+                    bytes: first(self.out, n),
+                    most: 32
+                }
+            ),
             StationAnswer::NotMine => write!(f, ": not mine"),
             StationAnswer::Refused(r) => write!(f, "{}", Refused(r)),
         }
@@ -81,15 +86,15 @@ fn call(rt: &impl Print, own: u8, lent: usize, telegram: &[u8], places: usize) -
         bytes: telegram,
         most: 16,
     };
-    let sent = Sent {
-        answer,
-        out: &room,
-    };
+    let sent = Sent { answer, out: &room };
     let kept = Kept {
         buffer: &room,
         from: length_of(answer),
     };
-    println!(rt; " {own} {lent} {places}{start}{sent}{}{kept}", KeptRegisters(&values))
+    println!(rt;
+        " {own} {lent} {places}{start}{sent}{}{kept}",
+        KeptRegisters(&values)
+    )
 }
 
 // A telegram with two entries, and 00s behind them: the first 12 bytes of a request ask for nothing.
@@ -101,20 +106,43 @@ pub(crate) fn standard(function: u8, first: u8, second: u8) -> [u8; 1025] {
 
 // The call of a station with so many places of its table, and so many bytes of a request: it is a relay for the second
 // station, or the destination if that is 0.
-fn request_case(rt: &impl Print, own: u8, lent: usize, second: u8, n: usize, places: usize) -> io::Result<()> {
-    call(rt, own, lent, first(&standard(0x60, own, second), n), places)
+fn request_case(
+    rt: &impl Print,
+    own: u8,
+    lent: usize,
+    second: u8,
+    n: usize,
+    places: usize,
+) -> io::Result<()> {
+    call(
+        rt,
+        own,
+        lent,
+        first(&standard(0x60, own, second), n),
+        places,
+    )
 }
 
 // The start of an extended telegram: the first entry of its mark, its count, its first two entries, and 00s.
 pub(crate) fn extended(function: u8, mark: u8, count: u8, first: u8, second: u8) -> [u8; 1025] {
     let mut t = [0u8; 1025];
-    places::put(&[function, 0xFF, mark, 0xEF, 0xEF, 0xEF, count, first, second], &mut t, 0);
+    places::put(
+        &[function, 0xFF, mark, 0xEF, 0xEF, 0xEF, count, first, second],
+        &mut t,
+        0,
+    );
     t
 }
 
 // So many bytes of an extended request with this count, for station 55.
 fn extended_case(rt: &impl Print, count: u8, n: usize) -> io::Result<()> {
-    call(rt, 0x55, TABLE_LENGTH, first(&extended(0x60, 0xEF, count, 0x55, 0), n), 1024)
+    call(
+        rt,
+        0x55,
+        TABLE_LENGTH,
+        first(&extended(0x60, 0xEF, count, 0x55, 0), n),
+        1024,
+    )
 }
 
 // A request to station 55 with two runs. The first value to write is 1, and the others are 0.
@@ -138,7 +166,13 @@ fn body_case(
     n: usize,
     places: usize,
 ) -> io::Result<()> {
-    call(rt, 0x55, TABLE_LENGTH, first(&runs(rstart, reads, wstart, writes), n), places)
+    call(
+        rt,
+        0x55,
+        TABLE_LENGTH,
+        first(&runs(rstart, reads, wstart, writes), n),
+        places,
+    )
 }
 
 // A value of two bytes, written to a register, with an output of so many places.
@@ -174,18 +208,11 @@ pub(crate) fn setups(rt: &impl Print) -> io::Result<()> {
         (0x55, 0),
         (0x55, TABLE_LENGTH - 1),
         (0x55, TABLE_LENGTH),
-        (0x55, TABLE_LENGTH + 1)
+        (0x55, TABLE_LENGTH + 1),
     ] {
         request_case(rt, own, lent, 0, 12, 1024)?;
     }
-    for (count, n) in [
-        (0, 13),
-        (1, 14),
-        (2, 15),
-        (32, 45),
-        (33, 46),
-        (255, 268)
-    ] {
+    for (count, n) in [(0, 13), (1, 14), (2, 15), (32, 45), (33, 46), (255, 268)] {
         extended_case(rt, count, n)?;
     }
     Ok(())
@@ -203,7 +230,7 @@ pub(crate) fn lengths(rt: &impl Print) -> io::Result<()> {
         (0, 7),
         (0x56, 5),
         (0x56, 6),
-        (0x56, 7)
+        (0x56, 7),
     ] {
         request_case(rt, 0x55, TABLE_LENGTH, second, n, 1024)?;
     }
@@ -214,7 +241,7 @@ pub(crate) fn lengths(rt: &impl Print) -> io::Result<()> {
         (33, 6),
         (33, 7),
         (32, 38),
-        (32, 39)
+        (32, 39),
     ] {
         extended_case(rt, count, n)?;
     }
@@ -223,7 +250,7 @@ pub(crate) fn lengths(rt: &impl Print) -> io::Result<()> {
         (0, 1025, 1024),
         (0x56, 1024, 1024),
         (0x56, 1025, 1025),
-        (0x56, 1025, 0)
+        (0x56, 1025, 0),
     ] {
         request_case(rt, 0x55, TABLE_LENGTH, second, n, places)?;
     }
@@ -240,15 +267,11 @@ pub(crate) fn outputs(rt: &impl Print) -> io::Result<()> {
         (0, 12, 8),
         (0, 12, 9),
         (0, 12, 10),
-        (0, 12, 0)
+        (0, 12, 0),
     ] {
         request_case(rt, 0x55, TABLE_LENGTH, second, n, places)?;
     }
-    for places in [
-        24,
-        25,
-        26
-    ] {
+    for places in [24, 25, 26] {
         body_case(rt, 955, 8, 300, 1, 14, places)?;
     }
     Ok(())
@@ -280,7 +303,7 @@ pub(crate) fn bodies(rt: &impl Print) -> io::Result<()> {
         (300, 1, 0, 0, 12),
         (931, 6, 0, 0, 12),
         (952, 2, 0, 0, 12),
-        (955, 8, 0, 0, 12)
+        (955, 8, 0, 0, 12),
     ] {
         body_case(rt, rstart, reads, wstart, writes, n, 1024)?;
     }
@@ -295,10 +318,9 @@ pub(crate) fn times(rt: &impl Print) -> io::Result<()> {
         (955, 255, 255, 1024),
         (957, 255, 255, 1024),
         (955, 8, 75, 8),
-        (957, 8, 75, 8)
+        (957, 8, 75, 8),
     ] {
         value_case(rt, number, high, low, places)?;
     }
     Ok(())
 }
-

@@ -1,7 +1,7 @@
 // The sending half at its limits.
 use link_receive::{LinkState, Phase};
 use link_send::{Attempts, Priority, SendAnswer, SendEvent, SendPhase, Sender};
-use show::{BEFORE, Filled, Half, Kept, Refused, first};
+use show::{BEFORE, Half, Kept, Written, first};
 use std::{fmt, io};
 
 // The phase, by its letter: F fresh, O opening, A awaiting, S sent, G gave up; and R receiving, with the half.
@@ -48,36 +48,6 @@ impl fmt::Display for ShownEvent {
     }
 }
 
-// How many bytes a sender sends: those that the answer says, or none.
-fn sent(answer: SendAnswer) -> usize {
-    match answer {
-        SendAnswer::Send(n) => n,
-        SendAnswer::Message(n, _) => n,
-        SendAnswer::Refused(_) => 0,
-    }
-}
-
-// The answer of a sender over its output: how many bytes it sends, and the end of them; and a message.
-#[derive(Clone, Copy)]
-struct ShownAnswer<'a> {
-    answer: SendAnswer,
-    out: &'a [u8],
-}
-
-impl fmt::Display for ShownAnswer<'_> {
-    fn fmt<W: fmt::Write>(&self, f: &mut fmt::Formatter<W>) -> fmt::Result {
-        let filled = Filled {
-            bytes: first(self.out, sent(self.answer)),
-            most: 3,
-        };
-        match self.answer {
-            SendAnswer::Send(_) => write!(f, "{filled}"),
-            SendAnswer::Message(_, count) => write!(f, "{filled}; message of {count}"),
-            SendAnswer::Refused(r) => write!(f, "{}", Refused(r)),
-        }
-    }
-}
-
 // One event at a sender of low priority, with n bytes 10 as data, a buffer and an output of so many places, and all that it gives.
 fn event_case(
     rt: &impl Print,
@@ -104,26 +74,32 @@ fn event_case(
         &mut room,
         &mut out[..places.min(2052)],
     );
+    let sent = step.answer.map(|answer| answer.sent);
+    let written = Written {
+        answer: sent,
+        out: &out,
+        most: 3,
+    };
+    let kept = Kept {
+        buffer: &out,
+        from: sent.unwrap_or(0),
+    };
+    print!(rt; " {} {}", limits.connections, limits.blocks)?;
     print!(rt;
-        " {} {}{}{} {n} {places}",
-        limits.connections,
-        limits.blocks,
+        "{}{} {n} {places}{written}",
         ShownSender(before),
         ShownEvent(event)
     )?;
-    let end = sent(step.answer);
-    println!(rt;
-        "{};{}{}",
-        ShownAnswer {
-            answer: step.answer,
-            out: &out
+    if let Ok(
+        SendAnswer {
+            message: Some(count),
+            ..
         },
-        ShownSender(step.state),
-        Kept {
-            buffer: &out,
-            from: end
-        }
-    )
+    ) = step.answer
+    {
+        print!(rt; "; message of {count}")?;
+    }
+    println!(rt; ";{}{kept}", ShownSender(step.state))
 }
 
 // The limits of 255 attempts.
