@@ -6,7 +6,7 @@ use mathlib.Core.List.{List, [], ◌∷◌, ◌++◌, append_assoc}
 use Prim.Native.Nat.{ℕ, suc, ◌+◌, ◌*◌, ◌≤◌, ◌<◌}
 use native.Mathlib.Nat.{add_comm, mul-suc, mul-le-mul_left}
 use native.Mathlib.Omega.{arith}
-use borrow.Author.Tests.{eqb-true, eq-eqb, ne_eqb, leb-true, ltb-true, lt-ltb, lt-leb, le-leb}
+use borrow.Author.Tests.{eqb-true, eq-eqb, leb-true, ltb-true, lt-ltb}
 use lib.Dec.{eqb, leb, ltb, leb-suc-suc}
 use lib.ListN.{length, take, drop, length-append, length-take, length-drop, take-append-drop, drop_of_length-le}
 use lib.Seq.{length-take-le, take_at, drop_at, drop-drop, take-add}
@@ -25,21 +25,7 @@ module _ (addresses tables : List ℕ) where
       let l = length addresses in
       eqb-true (length tables) (table_length * l) ((and-eq-true_iff (leb l max_stations) (eqb (length tables) (table_length * l))).0 e).1
 
-  -- too many addresses, tables of another length, or else the addresses decide
-  pub too_many : max_stations < length addresses → set_up addresses tables ≡ false
-  unfolding set_up tables_fit
-  too_many h = rw (lt-leb (length addresses) max_stations h)
-
-  module _ (few : length addresses ≤ max_stations) where
-    pub unfit : (length tables ≡ table_length * length addresses → ⊥) → set_up addresses tables ≡ false
-    unfolding set_up tables_fit
-    unfit n = rw (le-leb (length addresses) max_stations few, ne_eqb (length tables) (table_length * length addresses) n)
-
-    pub addresses_decide : length tables ≡ table_length * length addresses → set_up addresses tables ≡ distinct_addresses addresses
-    unfolding set_up tables_fit
-    addresses_decide e = rw (le-leb (length addresses) max_stations few, eq-eqb (length tables) (table_length * length addresses) e)
-
-  -- and tables of that length fit too
+  -- tables of that length fit too
   fit_same : (after : List ℕ) → length after ≡ length tables → tables_fit addresses tables ≡ true → tables_fit addresses after ≡ true
   unfolding tables_fit
   fit_same after e fits = rw e fits

@@ -1,7 +1,7 @@
 // One hop of a journey over a net of stations whose tables stand end to end: the called station makes its step on the header.
 #![tactic(auto)]
 
-ghost use Rattle.std.specs.Prelude.{◌≡◌, suc, ◌*◌, ◌≤◌, length, get_or};
+ghost use Rattle.std.specs.Prelude.{◌≡◌, suc, ◌*◌, ◌≤◌, length, get_or, MatchOption};
 ghost use Rattle.mop_registers.specs.Rows.{table_length};
 ghost use Rattle.mop_header.specs.Header.{head_of};
 ghost use Rattle.net_hop.specs.Tables.{set_up};
@@ -43,13 +43,9 @@ pub enum HopAnswer {
 pub fn is_set_up(addresses: &[u8], tables: &[u16]) -> bool
     ensures { result ≡ set_up addresses.now tables.now }
 {
-    if MAX_STATIONS < addresses.len() {
-        return false;
-    }
-    if tables.len() != TABLE_LENGTH * addresses.len() {
-        return false;
-    }
-    mop_block::distinct_addresses(addresses)
+    addresses.len() <= MAX_STATIONS
+        && tables.len() == TABLE_LENGTH * addresses.len()
+        && mop_block::distinct_addresses(addresses)
 }
 
 // A table of places: at each address one more than the place of its station in the list, and 0 at all other bytes. Of more than 64
@@ -58,27 +54,22 @@ pub fn places_of(addresses: &[u8]) -> [u8; BYTES]
     ensures { result ≡ places_of addresses.now }
 {
     let mut places = [0u8; BYTES];
-    let mut i: usize = 0;
-    while i < addresses.len() {
-        if i == MAX_STATIONS {
-            return places;
-        }
-        let a = addresses[i] as usize;
-        i += 1;
-        places[a] = i as u8;
+    let listed = &addresses[..MAX_STATIONS.min(addresses.len())];
+    for (place, &address) in listed.iter().enumerate() {
+        places[address as usize] = place as u8 + 1;
     }
     places
 }
 
-// What a table of places has at an address.
-fn number_at(places: &[u8; BYTES], a: u8) -> u8
-    ensures { result ≡ get_or places.now a 0 }
+// The place of the station with an address, by a table of places.
+fn place_at(places: &[u8; BYTES], address: u8) -> Option<usize>
+    ensures { MatchOption result (get_or places.now address 0 ≡ 0) (λ place. get_or places.now address 0 ≡ suc place) }
 {
-    let at = a as usize;
-    places[at]
+    (places[address as usize] as usize).checked_sub(1)
 }
 
 // The step of the station at a place. "Not mine" is never given, since its own entry is the first.
+#[tactic(auto, unfolding(mop_registers::specs::Rows::table_length))]
 fn step_at(
     own: u8,
     place: usize,
@@ -94,7 +85,7 @@ fn step_at(
     let start = TABLE_LENGTH * place;
     let end = start + TABLE_LENGTH;
     let table = &mut tables[start..end];
-    match mop_step::step(own, header, block, body, table, MAX_TELEGRAM, &mut *reply) {
+    match mop_step::step(own, header, block, body, table, MAX_TELEGRAM, reply) {
         StationStep::Relayed(h) => HopAnswer::Relayed(h),
         StationStep::Answered(h, n) => HopAnswer::Answered(h, n),
         StationStep::NotMine => HopAnswer::Ended(JourneyEnd::AtNobody),
@@ -120,20 +111,10 @@ pub fn hop(
     if entry == 0 {
         return HopAnswer::Ended(JourneyEnd::AtZero);
     }
-    let number = number_at(places, entry) as usize;
-    if number == 0 {
-        return HopAnswer::Ended(JourneyEnd::AtNobody);
+    match place_at(places, entry) {
+        Some(place) if TABLE_LENGTH * (place + 1) <= tables.len() => {
+            step_at(entry, place, header, block, body, tables, reply)
+        }
+        _ => HopAnswer::Ended(JourneyEnd::AtNobody),
     }
-    if tables.len() < TABLE_LENGTH * number {
-        return HopAnswer::Ended(JourneyEnd::AtNobody);
-    }
-    step_at(
-        entry,
-        number - 1,
-        header,
-        block,
-        body,
-        &mut *tables,
-        &mut *reply,
-    )
 }

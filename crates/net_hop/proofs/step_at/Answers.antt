@@ -1,7 +1,6 @@
 -- `step_at`: the station's table is a part of the tables.
 -- Assumes nothing.
 use Rattle.net_hop.proofs.Hops.{stepped_at}
-use Rattle.mop_registers.proofs.Places.{table_length_lem}
 use Rattle.mop_registers.specs.Rows.{table_length}
 use native.Mathlib.Omega.{arith}
 use mathlib.Core.Path.{◌≡◌, refl}
@@ -11,18 +10,6 @@ use Rattle.net_hop.proofs.step_at.Goals as goal
 -- how long the part is
 size : (start : ℕ) → (start + table_length) - start ≡ table_length
 size start = omega arith
-
-pub overflow_mul-start : goal.overflow_mul-start
-overflow_mul-start c = let l = rw table_length_lem at c.requires in omega arith
-
-pub overflow_add-end : goal.overflow_add-end
-overflow_add-end c = let l = rw table_length_lem at c.requires in omega arith
-
-pub offset_bounds-tables-start : goal.offset_bounds-tables-start
-offset_bounds-tables-start c = let l = rw table_length_lem at c.requires in omega arith
-
-pub slice_bounds-table-end : goal.slice_bounds-table-end
-slice_bounds-table-end c = let l = rw table_length_lem at c.requires in omega arith
 
 pub returns-in-Relayed : goal.returns-in-Relayed
 unfolding table_length
