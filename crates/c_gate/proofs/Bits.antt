@@ -1,15 +1,15 @@
 -- Levels and edges as numbers.
 -- Assumes nothing.
-use mathlib.Core.Path.{◌≡◌, refl, sym, ap}
-use mathlib.Core.Bool.{Bool, true, false, and-false, and-eq-true_iff}
+use mathlib.Core.Path.{◌≡◌, refl, sym, ap, ◌∙◌}
+use mathlib.Core.Bool.{Bool, true, false, ◌&&◌, and-false, and-eq-true_iff}
 use mathlib.Core.List.{List, [], ◌∷◌}
-use Prim.Native.Nat.{ℕ, zero, suc, ◌+◌, ◌≤◌, ◌<◌}
-use native.Mathlib.Numerals.{add-one}
-use borrow.Author.Tests.{eqb-true, eq-eqb, ne_eqb, le-leb, lt-leb}
-use lib.Dec.{eqb}
-use lib.ListN.{length, get_or, drop, drop_of_length-le}
-use lib.Seq.{drop-cons}
+use Prim.Native.Nat.{ℕ, zero, suc, ◌<◌}
+use borrow.Author.Tests.{eqb-true, eq-eqb, ne_eqb}
+use lib.Dec.{eqb, leb}
+use lib.ListN.{length, get_or}
 use mir.Val.{bool_byte}
+use Rattle.std.specs.List.{list_all}
+use Rattle.std.proofs.lemmas.List.FromFn.{fill_by_all}
 use Rattle.gate_commands.specs.Commands.{commands, operating}
 use Rattle.c_answer.specs.Answer.{refused}
 use Rattle.c_gate.specs.Commands.{bit_numbers, bits_at, none_above1, is_bits, registers_at, operated, operated_by, operate_call}
@@ -37,28 +37,17 @@ number_at (true ∷ l) zero = refl
 number_at (false ∷ l) zero = refl
 number_at (b ∷ l) (suc i) = number_at l i
 
--- the test of the numbers, from a place on
-above_stop : (n : ℕ) (l : List ℕ) → 1 < n → none_above1 (n ∷ l) ≡ false
+-- two lists of n that are the same place by place
+pub same_places : {A : Type 0} (d : A) (n : ℕ) {l m : List A} → length l ≡ n → length m ≡ n →
+    ((i : ℕ) → i < n → get_or l i d ≡ get_or m i d) → l ≡ m
+same_places d n {l} {m} h k same =
+    fill_by_all (λ i. get_or m i d) l n d h same ∙ sym (fill_by_all (λ i. get_or m i d) m n d k (λ i _. refl))
+
+-- the test of every number
+pub above_all : (l : List ℕ) → list_all (λ n. leb n 1) l ≡ none_above1 l
 unfolding none_above1
-above_stop n l h = rw (lt-leb n 1 h)
-
-above_step : (n : ℕ) (l : List ℕ) → n ≤ 1 → none_above1 (n ∷ l) ≡ none_above1 l
-unfolding none_above1
-above_step n l h = rw (le-leb n 1 h)
-
-above_nil : none_above1 [] ≡ true
-unfolding none_above1
-above_nil = refl
-
-module _ (i : ℕ) (l : List ℕ) (h : i < length l) where
-  pub above_not : 1 < get_or l i 0 → none_above1 (drop i l) ≡ false
-  above_not k = rw (drop-cons l i 0 h) (above_stop (get_or l i 0) _ k)
-
-  pub above_on : get_or l i 0 ≤ 1 → none_above1 (drop (i + 1) l) ≡ none_above1 (drop i l)
-  above_on k = rw (add-one i, drop-cons l i 0 h) (sym (above_step (get_or l i 0) _ k))
-
-pub above_end : (i : ℕ) (l : List ℕ) → length l ≤ i → none_above1 (drop i l) ≡ true
-above_end i l h = rw (drop_of_length-le l h) above_nil
+above_all [] = refl
+above_all (n ∷ l) = ap (λ (b : Bool). leb n 1 && b) (above_all l)
 
 module _ (l : List ℕ) where
   pub not_ten : (length l ≡ commands → ⊥) → is_bits l ≡ false

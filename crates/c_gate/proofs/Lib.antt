@@ -1,4 +1,4 @@
-pub mod Fronts
+pub mod Options
 pub mod States
 pub mod Bits
 pub mod Answers

@@ -1,15 +1,14 @@
 -- The numbers of an event and of a state: the tests in turn, and two lists compared place by place.
 -- Assumes nothing.
-use mathlib.Core.Path.{◌≡◌, refl, sym}
+use mathlib.Core.Path.{◌≡◌, refl, ap}
 use mathlib.Core.Bool.{Bool, true, false, ◌&&◌, and-false, and-eq-true_iff, false≢true}
 use mathlib.Core.List.{List, [], ◌∷◌}
-use Prim.Native.Nat.{ℕ, ◌+◌, ◌≤◌, ◌<◌}
-use native.Mathlib.Numerals.{add-one}
+use Prim.Native.Nat.{ℕ, ◌≤◌, ◌<◌}
 use native.Mathlib.Omega.{arith}
-use borrow.Author.Tests.{ltb-true, eqb-true, eq-eqb, ne_eqb, leb-true, le-leb, lt-leb}
-use lib.Dec.{eqb, leb, ltb}
-use lib.ListN.{length, get_or, drop, drop_of_length-le}
-use lib.Seq.{drop-cons}
+use borrow.Author.Tests.{eqb-true, eq-eqb, ne_eqb, leb-true, le-leb, lt-leb}
+use lib.Dec.{eqb, leb}
+use lib.ListN.{length, get_or}
+use lib.Pointwise.{pointwise}
 use mir.Syntax.{w8, w16}
 use mir.Val.{Fits}
 use Rattle.gate_receive.specs.Receive.{receive_of}
@@ -25,10 +24,6 @@ pub record Fitting (w : List ℕ) : Type 0 where
   pub size : get_or w 3 0 ≤ 255
   pub check : get_or w 5 0 ≤ 65535
   pub high : get_or w 6 0 ≤ 255
-
--- the places of seven numbers
-pub seven_places : (w : List ℕ) (k : ℕ) → length w ≡ 7 → ltb k 7 ≡ true → k < length w
-seven_places w k n h = rw n (ltb-true k 7 h)
 
 -- what fits is narrowed without loss
 pub byte_fits : {n : ℕ} → n ≤ 255 → Fits w8 n
@@ -67,28 +62,6 @@ module _ (w : List ℕ) where
   unfolding fits
   not_seven h = rw (ne_eqb (length w) 7 h)
 
-  pub wide_destination : 255 < get_or w 1 0 → fits w ≡ false
-  unfolding fits
-  wide_destination h = simp (lt-leb (get_or w 1 0) 255 h, and-false)
-
-  pub wide_source : 255 < get_or w 2 0 → fits w ≡ false
-  unfolding fits
-  wide_source h = simp (lt-leb (get_or w 2 0) 255 h, and-false)
-
-  pub wide_size : 255 < get_or w 3 0 → fits w ≡ false
-  unfolding fits
-  wide_size h = simp (lt-leb (get_or w 3 0) 255 h, and-false)
-
-  pub wide_check : 65535 < get_or w 5 0 → fits w ≡ false
-  unfolding fits
-  wide_check h = simp (lt-leb (get_or w 5 0) 65535 h, and-false)
-
-  pub fits_last : length w ≡ 7 → get_or w 1 0 ≤ 255 → get_or w 2 0 ≤ 255 → get_or w 3 0 ≤ 255 → get_or w 5 0 ≤ 65535 →
-      fits w ≡ leb (get_or w 6 0) 255
-  unfolding fits
-  fits_last n d s k c =
-      rw (eq-eqb (length w) 7 n, le-leb (get_or w 1 0) 255 d, le-leb (get_or w 2 0) 255 s, le-leb (get_or w 3 0) 255 k, le-leb (get_or w 5 0) 65535 c)
-
 -- two lists, place by place
 pub same_self : (l : List ℕ) → same l l ≡ true
 unfolding same
@@ -104,31 +77,12 @@ same_equal (x ∷ a) (y ∷ b) e =
     let t = both (eqb x y) (same a b) e in
     rw (eqb-true x y t.0, same_equal a b t.1)
 
-same_step : (x y : ℕ) (a b : List ℕ) → x ≡ y → same (x ∷ a) (y ∷ b) ≡ same a b
+pub same_is : (a b : List ℕ) → pointwise eqb a b ≡ same a b
 unfolding same
-same_step x y a b e = rw (eq-eqb x y e)
-
-same_stop : (x y : ℕ) (a b : List ℕ) → (x ≡ y → ⊥) → same (x ∷ a) (y ∷ b) ≡ false
-unfolding same
-same_stop x y a b e = rw (ne_eqb x y e)
-
-same_nil : same [] [] ≡ true
-unfolding same
-same_nil = refl
-
--- from a place on
-abbrev pub same_from : ℕ → List ℕ → List ℕ → Bool
-same_from i a b = same (drop i a) (drop i b)
-
-module _ (i : ℕ) (a b : List ℕ) (h : i < length a) (k : i < length b) where
-  pub same_on : get_or a i 0 ≡ get_or b i 0 → same_from (i + 1) a b ≡ same_from i a b
-  same_on e = rw (add-one i, drop-cons a i 0 h, drop-cons b i 0 k) (sym (same_step (get_or a i 0) (get_or b i 0) _ _ e))
-
-  pub same_not : (get_or a i 0 ≡ get_or b i 0 → ⊥) → same_from i a b ≡ false
-  same_not e = rw (drop-cons a i 0 h, drop-cons b i 0 k) (same_stop (get_or a i 0) (get_or b i 0) _ _ e)
-
-pub same_end : (i : ℕ) (a b : List ℕ) → length a ≤ i → length b ≤ i → same_from i a b ≡ true
-same_end i a b h k = rw (drop_of_length-le a h, drop_of_length-le b k) same_nil
+same_is [] [] = refl
+same_is [] (y ∷ b) = refl
+same_is (x ∷ a) [] = refl
+same_is (x ∷ a) (y ∷ b) = ap (λ (t : Bool). eqb x y && t) (same_is a b)
 
 -- the two tests of a state
 module _ (w : List ℕ) where

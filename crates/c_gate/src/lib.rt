@@ -2,7 +2,8 @@
 // write_command, gate_answers::write_answer and read_answer. include/hanraquin.h says it for the programmer.
 #![tactic(auto)]
 
-ghost use Rattle.std.specs.Prelude.{◌≡◌, true, length};
+ghost use Rattle.std.specs.Prelude.{◌≡◌, true, length, Some, None};
+ghost use Rattle.base.specs.Choice.{pick};
 ghost use Rattle.gate_refusal.specs.Numbers.{number_of};
 ghost use Rattle.gate_refusal.specs.Writing.{given_of};
 ghost use Rattle.gate_receive.specs.Receive.{response_of, receive_of};
@@ -22,107 +23,64 @@ use gate_refusal::GateRefusal;
 pub fn hanraquin_gate_write(destination: u8, source: u8, src: &[u8], out: &mut [u8]) -> u64
     ensures { written result out.new ≡ write_call destination source src.now out.old }
 {
-    c_answer::of_writing(gate_telegram::write(destination, source, src, &mut *out))
+    c_answer::of_writing(gate_telegram::write(destination, source, src, out))
 }
 
 // How many numbers a state has.
 const STATE: usize = 7;
 
-// Whether there are seven numbers, each of them small enough for what it stands for.
-fn is_fitting(words: &[u64]) -> bool
+// Whether seven numbers are small enough for what they stand for.
+#[tactic(auto, unfolding(crate::specs::Bus::fits))]
+fn is_fitting(words: &[u64; STATE]) -> bool
     ensures { result ≡ fits words.now }
 {
-    if words.len() != STATE {
-        return false;
-    }
-    if 255 < words[1] {
-        return false;
-    }
-    if 255 < words[2] {
-        return false;
-    }
-    if 255 < words[3] {
-        return false;
-    }
-    if 65535 < words[5] {
-        return false;
-    }
-    words[6] <= 255
+    let [_, destination, source, size, _, check, high] = *words;
+    destination <= 255 && source <= 255 && size <= 255 && check <= 65535 && high <= 255
 }
 
-// The state that seven numbers stand for.
-fn state_of(
-    phase: u64,
-    destination: u8,
-    source: u8,
-    size: u8,
-    count: usize,
-    check: u16,
-    high: u8,
-) -> GateState
-    ensures { result ≡ state_of phase destination source size count check high }
+// The state that fitting numbers stand for.
+#[tactic(auto, unfolding(crate::specs::Bus::state_at, crate::specs::Bus::state_of))]
+fn state_at(words: &[u64; STATE]) -> GateState
+    requires { fits words.now ≡ true }
+    ensures { result ≡ state_at words.now }
 {
-    if phase == 0 {
-        return GateState::Rest;
-    }
-    if phase == 1 {
-        return GateState::AtDestination;
-    }
-    if phase == 2 {
-        return GateState::AtSource { destination, check };
-    }
-    if phase == 3 {
-        return GateState::AtLength {
+    let destination = words[1] as u8;
+    let source = words[2] as u8;
+    let size = words[3] as u8;
+    let count = words[4] as usize;
+    let check = words[5] as u16;
+    let high = words[6] as u8;
+    match words[0] {
+        0 => GateState::Rest,
+        1 => GateState::AtDestination,
+        2 => GateState::AtSource { destination, check },
+        3 => GateState::AtLength {
             destination,
             source,
             check,
-        };
-    }
-    if phase == 4 {
-        return GateState::AtData {
+        },
+        4 => GateState::AtData {
             destination,
             source,
             size,
             stored: count,
             check,
-        };
-    }
-    if phase == 5 {
-        return GateState::AtLowCheck {
+        },
+        5 => GateState::AtLowCheck {
             destination,
             source,
             size,
             check,
             high,
-        };
+        },
+        6 => GateState::OthersSource,
+        7 => GateState::OthersLength,
+        _ => GateState::Dropping { left: count },
     }
-    if phase == 6 {
-        return GateState::OthersSource;
-    }
-    if phase == 7 {
-        return GateState::OthersLength;
-    }
-    GateState::Dropping { left: count }
-}
-
-// The state that fitting numbers stand for.
-fn state_at(words: &[u64]) -> GateState
-    requires { fits words.now ≡ true }
-    ensures { result ≡ state_at words.now }
-{
-    state_of(
-        words[0],
-        words[1] as u8,
-        words[2] as u8,
-        words[3] as u8,
-        words[4] as usize,
-        words[5] as u16,
-        words[6] as u8,
-    )
 }
 
 // The seven numbers of a state.
-fn words_of(state: GateState) -> [u64; 7]
+fn words_of(state: GateState) -> [u64; STATE]
     ensures { result ≡ state_words state }
 {
     match state {
@@ -178,41 +136,19 @@ fn words_of(state: GateState) -> [u64; 7]
     }
 }
 
-// Whether seven numbers are these.
-fn is_same(words: &[u64], others: [u64; 7]) -> bool
-    requires { length words.now ≡ 7 }
-    ensures { result ≡ same words.now others }
+// The state that numbers stand for, if they are those of a state: they fit, and are the numbers of that state.
+fn state_from(words: &[u64]) -> Option<GateState>
+    ensures { result ≡ pick (is_state words.now) (Some (state_at words.now)) None }
 {
-    let mut i: usize = 0;
-    while i < STATE {
-        if words[i] != others[i] {
-            return false;
-        }
-        i += 1;
-    }
-    true
-}
-
-// Whether numbers are a state: they fit, and are the numbers of the state that they stand for.
-fn is_state(words: &[u64]) -> bool
-    ensures { result ≡ is_state words.now }
-{
+    let words = words.as_array()?;
     if !is_fitting(words) {
-        return false;
+        return None;
     }
-    is_same(words, words_of(state_at(words)))
-}
-
-// Writes a state as seven numbers.
-fn put_state(state: GateState, words: &mut [u64])
-    requires { length words.old ≡ 7 }
-    ensures { words.new ≡ state_words state }
-{
-    let new = words_of(state);
-    let mut i: usize = 0;
-    while i < STATE {
-        words[i] = new[i];
-        i += 1;
+    let state = state_at(words);
+    if *words == words_of(state) {
+        Some(state)
+    } else {
+        None
     }
 }
 
@@ -220,13 +156,15 @@ fn put_state(state: GateState, words: &mut [u64])
 const TIMER: u32 = 256;
 
 // The event with a number: a byte, or the timer.
+#[tactic(auto, unfolding(crate::specs::Bus::event_at))]
 fn event_at(n: u32) -> GateEvent
     ensures { result ≡ event_at n }
 {
     if n < TIMER {
-        return GateEvent::Byte(n as u8);
+        GateEvent::Byte(n as u8)
+    } else {
+        GateEvent::Timer
     }
-    GateEvent::Timer
 }
 
 // The answer to an event.
@@ -239,20 +177,6 @@ fn of_answer(answer: Result<GateAnswer, GateRefusal>) -> u64
         Ok(GateAnswer::Token { source }) => 131072 + source as u64,
         Err(r) => c_answer::refused(r),
     }
-}
-
-// One event at a state that numbers stand for.
-fn receive_at(own: u8, words: &mut [u64], store: &mut [u8], event: u32, out: &mut [u8]) -> u64
-    requires { is_state words.old ≡ true }
-    ensures { received result words.new store.new out.new ≡ received_by (receive_of own (state_at words.old) store.old (event_at event) out.old) }
-{
-    let before = state_at(&*words);
-    let happened = event_at(event);
-    let step = gate_receive::receive(own, before, &mut *store, happened, &mut *out);
-    let after = step.state;
-    put_state(after, &mut *words);
-    let answer = step.answer;
-    of_answer(answer)
 }
 
 // One event at the receiver whose state is seven numbers: gate_receive::receive. The value is 0 for nothing; 65536, 256 times
@@ -271,54 +195,32 @@ pub fn hanraquin_gate_receive(
     if TIMER < event {
         return c_answer::refused(GateRefusal::Setup);
     }
-    if !is_state(&*state) {
+    let Some(before) = state_from(state) else {
         return c_answer::refused(GateRefusal::Setup);
-    }
-    receive_at(own, &mut *state, &mut *store, event, &mut *out)
+    };
+    let step = gate_receive::receive(own, before, store, event_at(event), out);
+    state.copy_from_slice(&words_of(step.state));
+    of_answer(step.answer)
 }
 
-// Whether numbers are ten levels or ten edges, each 0 or 1.
-fn is_bits(words: &[u8]) -> bool
-    ensures { result ≡ is_bits words.now }
+// The levels or edges that numbers stand for, if there are ten, each 0 or 1.
+fn bits_from(words: &[u8]) -> Option<[bool; COMMANDS]>
+    ensures { result ≡ pick (is_bits words.now) (Some (bits_at words.now)) None }
 {
-    if words.len() != COMMANDS {
-        return false;
+    let words = words.as_array()?;
+    if words.iter().all(|word| *word <= 1) {
+        Some(words.map(|word| word == 1))
+    } else {
+        None
     }
-    let mut i: usize = 0;
-    while i < COMMANDS {
-        if 1 < words[i] {
-            return false;
-        }
-        i += 1;
-    }
-    true
-}
-
-// The levels or edges that ten numbers stand for.
-fn bits_at(words: &[u8]) -> [bool; 10]
-    requires { length words.now ≡ 10 }
-    ensures { result ≡ bits_at words.now }
-{
-    let mut bits = [false; 10];
-    let mut i: usize = 0;
-    while i < COMMANDS {
-        bits[i] = words[i] == 1;
-        i += 1;
-    }
-    bits
 }
 
 // Writes levels or edges as ten numbers.
-fn put_bits(bits: [bool; 10], words: &mut [u8])
+fn put_bits(bits: [bool; COMMANDS], words: &mut [u8])
     requires { length words.old ≡ 10 }
     ensures { words.new ≡ bit_numbers bits }
 {
-    let mut i: usize = 0;
-    while i < COMMANDS {
-        let set = bits[i];
-        words[i] = set as u8;
-        i += 1;
-    }
+    words.copy_from_slice(&bits.map(|bit| bit as u8));
 }
 
 // The answer of an operating command: 1 for ack, 2 for nak.
@@ -332,46 +234,32 @@ fn of_verdict(answer: Result<OperateAnswer, GateRefusal>) -> u64
     }
 }
 
-// An operating command on levels and edges that there are.
-fn operate_at(src: &[u8], levels: &mut [u8], edges: &mut [u8]) -> u64
-    requires { (length levels.old ≡ 10) × (length edges.old ≡ 10) }
-    ensures { operated result levels.new edges.new ≡ operated_by (operating (registers_at levels.old edges.old) src.now) }
-{
-    let levels_before = bits_at(&*levels);
-    let edges_before = bits_at(&*edges);
-    let before = GateRegisters {
-        levels: levels_before,
-        edges: edges_before,
-    };
-    let done = gate_commands::operate(before, src);
-    let after = done.registers;
-    let levels_after = after.levels;
-    put_bits(levels_after, &mut *levels);
-    let edges_after = after.edges;
-    put_bits(edges_after, &mut *edges);
-    let answer = done.answer;
-    of_verdict(answer)
-}
-
 // An operating command carried out on ten levels and ten edges: gate_commands::operate. The value is 1 for ack and 2 for nak.
 // Refused, and all as it was: 1 for levels or edges that are not ten, or one above 1; then what operate refuses, 7 and 3.
 pub fn hanraquin_gate_operate(src: &[u8], levels: &mut [u8], edges: &mut [u8]) -> u64
     ensures { operated result levels.new edges.new ≡ operate_call src.now levels.old edges.old }
 {
-    if !is_bits(&*levels) {
+    let Some(levels_before) = bits_from(levels) else {
         return c_answer::refused(GateRefusal::Setup);
-    }
-    if !is_bits(&*edges) {
+    };
+    let Some(edges_before) = bits_from(edges) else {
         return c_answer::refused(GateRefusal::Setup);
-    }
-    operate_at(src, &mut *levels, &mut *edges)
+    };
+    let before = GateRegisters {
+        levels: levels_before,
+        edges: edges_before,
+    };
+    let done = gate_commands::operate(before, src);
+    put_bits(done.registers.levels, levels);
+    put_bits(done.registers.edges, edges);
+    of_verdict(done.answer)
 }
 
 // The operating command with these two bytes: gate_commands::write_command. The value is its length.
 pub fn hanraquin_gate_write_command(command: u8, function: u8, out: &mut [u8]) -> u64
     ensures { written result out.new ≡ write_command_call command function out.old }
 {
-    c_answer::of_writing(gate_commands::write_command(command, function, &mut *out))
+    c_answer::of_writing(gate_commands::write_command(command, function, out))
 }
 
 // The position with a number, which is judged before it is narrowed.
@@ -415,7 +303,7 @@ pub fn hanraquin_gate_write_answer(kind: u8, number: i32, out: &mut [u8]) -> u64
     ensures { written result out.new ≡ write_answer_call kind number out.old }
 {
     match answer_at(kind, number) {
-        Ok(answer) => c_answer::of_writing(gate_answers::write_answer(answer, &mut *out)),
+        Ok(answer) => c_answer::of_writing(gate_answers::write_answer(answer, out)),
         Err(r) => c_answer::refused(r),
     }
 }

@@ -1,30 +1,27 @@
 -- `hanraquin_gate_receive`: the tests of event and state, and then the event.
 -- Assumes nothing.
 use native.Mathlib.Omega.{arith}
-use mathlib.Core.Bool.{true}
-use mathlib.Core.Path.{◌≡◌, sym, ◌∙◌}
-use Rattle.c_gate.specs.Bus.{is_state}
-use Rattle.c_gate.proofs.States.{no_event, no_state, at_state}
+use mathlib.Core.Path.{◌≡◌, sym, ap, ◌∙◌}
+use lib.ListN.{length}
+use borrow.Author.Rules.{rules}
+use Rattle.c_gate.specs.Bus.{received_by}
+use Rattle.c_gate.proofs.Options.{none_behind, some_behind}
+use Rattle.c_gate.proofs.States.{fits_parts, state_parts, no_event, no_state, at_state}
 use Rattle.c_gate.proofs.hanraquin_gate_receive.Goals as goal
-use Rattle.c_gate.proofs.hanraquin_gate_receive.Goals.{Else-not-is_state}
-
--- what that test shows
-state : (s : Else-not-is_state) → is_state s.args.state.now ≡ true
-state s = sym s.is_state.ensures ∙ s.if-not-is_state.false
 
 pub returns-then-event-gt-TIMER : goal.returns-then-event-gt-TIMER
 returns-then-event-gt-TIMER c = rw c.refused.ensures (sym (no_event _ _ _ _ _ c.if-event-gt-TIMER.true))
 
-pub returns-then-not-is_state : goal.returns-then-not-is_state
-returns-then-not-is_state c =
-    let test = c.is_state in
-    rw c.refused-then-not-is_state.ensures (sym (no_state _ _ _ _ _ (sym test.ensures ∙ c.if-not-is_state.true)))
+pub returns-in_default : goal.returns-in_default
+returns-in_default c = rw c.refused-in_default.ensures (sym (no_state _ _ _ _ _ (none_behind _ _ c.in_default.ensures)))
 
-pub receive_at-requires : goal.receive_at-requires
-receive_at-requires c = state (goal.at.receive_at-requires c).Else-not-is_state
+pub copy_from_slice-requires : goal.copy_from_slice-requires
+copy_from_slice-requires c =
+    let seven : length c.words_of.result ≡ 7 = search rules in
+    (fits_parts _ (state_parts _ (some_behind _ _ c.in-Some.ensures).0).0).seven ∙ sym seven
 
 pub returns : goal.returns
 returns c =
-    let r = c in
-    let e = r in
-    r.receive_at.ensures ∙ sym (at_state _ _ _ _ _ (omega arith) (state (goal.at.returns e).Else-not-is_state))
+    let state = some_behind _ _ c.in-Some.ensures in
+    rw (c.of_answer.ensures, c.copy_from_slice.ensures.after, c.words_of.ensures)
+    (ap received_by c.receive-step.ensures ∙ rw (state.1, c.event_at.ensures) (sym (at_state _ _ _ _ _ (omega arith) state.0)))

@@ -1,29 +1,20 @@
--- `put_bits`: the places are filled from the front.
+-- `put_bits`: each level or edge is mapped to its number.
 -- Assumes nothing.
-use mathlib.Core.Path.{◌≡◌, refl}
-use native.Mathlib.Omega.{arith}
-use lib.ListN.{length}
-use Rattle.c_gate.specs.Commands.{bit_numbers}
-use Rattle.c_gate.proofs.Fronts.{front_grows, front_whole}
-use Rattle.c_gate.proofs.Bits.{length_numbers, number_at}
+use mathlib.Core.Path.{◌≡◌, ◌∙◌}
+use mathlib.Core.Bool.{false}
 use borrow.Author.Rules.{rules}
+use lib.ListN.{length, get_or}
+use mir.Val.{bool_byte}
+use Rattle.c_gate.proofs.Bits.{length_numbers, number_at, same_places}
 use Rattle.c_gate.proofs.put_bits.Goals as goal
-
-pub loop-i-init : goal.loop-i-init
-loop-i-init c = (omega arith, c.requires, refl)
-
-pub loop-i-preserved : goal.loop-i-preserved
-loop-i-preserved c =
-    let l = c.loop-i in
-    let bits = c.args.bits in
-    let ten : length bits ≡ 10 = search rules in
-    let long = length_numbers bits in
-    (omega arith, search rules, front_grows l.words (bit_numbers bits) l.i 0 (number_at bits l.i) (omega arith) (omega arith) l.invariant.2)
 
 pub returns : goal.returns
 returns c =
-    let l = c.loop-i in
     let bits = c.args.bits in
     let ten : length bits ≡ 10 = search rules in
-    let long = length_numbers bits in
-    front_whole l.words (bit_numbers bits) l.i (omega arith) (omega arith) l.invariant.2
+    c.copy_from_slice.ensures.after
+    ∙ same_places 0 10 c.map.ensures.items.long (length_numbers bits ∙ ten)
+    (λ i h.
+    let called = c.map.ensures.items.at i false 0 h in
+    let is : get_or c.map.result i 0 ≡ bool_byte (get_or bits i false) = search rules in
+    is ∙ number_at bits i)
