@@ -2,8 +2,9 @@
 use crate::station_limits;
 use crate::station_limits::{KeptRegisters, PLACES};
 use mop_registers::TABLE_LENGTH;
-use net_dry_run::DryRunAnswer;
+use net_dry_run::Played;
 use net_hop::JourneyEnd;
+use refusal::Refusal;
 use show::{BEFORE, Kept, Refused, Start, first, first_other, last};
 use std::{fmt, io};
 
@@ -30,26 +31,22 @@ impl fmt::Display for Ending {
 // behind it.
 #[derive(Clone, Copy)]
 struct ShownAnswer<'a> {
-    answer: DryRunAnswer,
+    answer: Result<Played, Refusal>,
     out: &'a [u8],
 }
 
 impl fmt::Display for ShownAnswer<'_> {
     fn fmt<W: fmt::Write>(&self, f: &mut fmt::Formatter<W>) -> fmt::Result {
         match self.answer {
-            DryRunAnswer::Played(count, ending, n) => {
+            Ok(Played { count, ending, length }) => {
                 let start = Start {
-                    bytes: first(self.out, n),
+                    bytes: first(self.out, length),
                     most: 64,
                 };
-                write!(
-                    f,
-                    ": played {count}{}; last{start}; 00 to {}",
-                    Ending(ending),
-                    first_other(self.out, n, 0)
-                )
+                let zeros = first_other(self.out, length, 0);
+                write!(f, ": played {count}{}; last{start}; 00 to {zeros}", Ending(ending))
             }
-            DryRunAnswer::Refused(r) => write!(f, "{}", Refused(r)),
+            Err(r) => write!(f, "{}", Refused(r)),
         }
     }
 }
@@ -79,10 +76,7 @@ fn run(
     let shown = ShownAnswer { answer, out: &room };
     let kept = Kept {
         buffer: &room,
-        from: match answer {
-            DryRunAnswer::Played(..) => 1024,
-            DryRunAnswer::Refused(_) => 0,
-        },
+        from: if answer.is_ok() { 1024 } else { 0 },
     };
     println!(rt; "{shown}{}{kept}", KeptRegisters(&values))
 }
