@@ -2,8 +2,7 @@
 // 12, 13 and 55; its journey is told on standard output.
 #![tactic(auto)]
 
-ghost use Rattle.std.specs.Prelude.{◌≡◌, ◌++◌, ◌+◌, ◌≤◌, length};
-ghost use Rattle.std.proofs.lemmas.List.Edits.{sets};
+ghost use Rattle.std.specs.Prelude.{◌≡◌, ◌++◌};
 ghost use Rattle.mop_registers.specs.Rows.{factory};
 
 use mop_registers::TABLE_LENGTH;
@@ -12,27 +11,15 @@ use std::io;
 // The places of the tables of three stations.
 const PLACES: usize = 3 * TABLE_LENGTH;
 
-// Copies the values to the places of the tables from `at` on.
-fn put_values(values: &[u16], tables: &mut [u16], at: usize)
-    requires { at + length values.now ≤ length tables.old }
-    ensures { tables.new ≡ sets tables.old at values.now }
-{
-    let mut i: usize = 0;
-    while i < values.len() {
-        tables[at + i] = values[i];
-        i += 1;
-    }
-}
-
 // The tables of three stations as they leave the factory, end to end.
 fn factory_tables() -> [u16; PLACES]
     ensures { result ≡ factory ++ (factory ++ factory) }
 {
     let values = mop_registers::factory();
     let mut tables = [0u16; PLACES];
-    put_values(&values, &mut tables, 0);
-    put_values(&values, &mut tables, TABLE_LENGTH);
-    put_values(&values, &mut tables, 2 * TABLE_LENGTH);
+    tables[..TABLE_LENGTH].copy_from_slice(&values);
+    tables[TABLE_LENGTH..2 * TABLE_LENGTH].copy_from_slice(&values);
+    tables[2 * TABLE_LENGTH..].copy_from_slice(&values);
     tables
 }
 
@@ -43,11 +30,9 @@ fn main(rt: HostRuntime) -> io::Result<()> {
     let addresses = [0x12u8, 0x13, 0x55];
     let mut tables = factory_tables();
     let mut text = [0u8; 6500];
-    let answer = net_report::report(&input[..n], &addresses, &mut tables, &mut text);
-    if let Ok(length) = answer {
-        if length <= text.len() {
-            rt.write_all(&text[0..length])?;
-        }
+    match net_report::report(&input[..n], &addresses, &mut tables, &mut text) {
+        Ok(length) => rt.write_all(&text[..length.min(text.len())]),
+        // Only an output that is too short is refused, and this one is not.
+        Err(_) => Ok(()),
     }
-    Ok(())
 }

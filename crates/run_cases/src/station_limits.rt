@@ -19,8 +19,8 @@ pub(crate) fn tables_before() -> [u16; PLACES] {
 
 // The first place, from n on, whose value changed; the length where there is none.
 fn first_changed(s: &[u16], n: usize) -> usize {
-    for (i, x) in s.iter().enumerate().skip(n) {
-        if *x != value_before(i) {
+    for i in n..s.len() {
+        if s[i] != value_before(i) {
             return i;
         }
     }

@@ -2,7 +2,7 @@
 // texts are compared with the files `stdout` of the programs.
 #![tactic(auto)]
 
-ghost use Rattle.std.specs.Prelude.{◌≡◌, ◌-◌, ◌≤◌, length, take, drop};
+ghost use Rattle.std.specs.Prelude.{◌≡◌, ◌≢◌, ℕ, ◌-◌, ◌≤◌, ◌<◌, length, take, drop, slice_index};
 
 use link_receive::{Dle, LinkState, Phase};
 use refusal::Numbered;
@@ -27,10 +27,12 @@ pub fn last<T>(s: &[T], n: usize) -> &[T]
 
 // The first place, from n on, that does not hold b; the length where there is none.
 pub fn first_other(s: &[u8], n: usize, b: u8) -> usize
-    ensures { result ≤ length s.now }
+    ensures bound { result ≤ length s.now }
+    ensures before { (k : ℕ) → n ≤ k → k < result → slice_index s.now k ≡ b }
+    ensures there { result < length s.now → (n ≤ result) × (slice_index s.now result ≢ b) }
 {
-    for (i, x) in s.iter().enumerate().skip(n) {
-        if *x != b {
+    for i in n..s.len() {
+        if s[i] != b {
             return i;
         }
     }
@@ -81,25 +83,8 @@ impl<E: Numbered> fmt::Display for Refused<E> {
     }
 }
 
-// What is written, by its length and its end, no more than so many bytes.
-#[derive(Clone, Copy)]
-pub struct Filled<'a> {
-    pub bytes: &'a [u8],
-    pub most: usize,
-}
-
-impl fmt::Display for Filled<'_> {
-    fn fmt<W: fmt::Write>(&self, f: &mut fmt::Formatter<W>) -> fmt::Result {
-        write!(
-            f,
-            ": written {}{}",
-            self.bytes.len(),
-            Bytes(last(self.bytes, self.most))
-        )
-    }
-}
-
-// The answer of a call that writes, over its output: what is written, as above, or a refusal.
+// The answer of a call that writes, over its output: a refusal, or the length of what is written, and its end, no more than so
+// many bytes.
 #[derive(Clone, Copy)]
 pub struct Written<'a, E> {
     pub answer: Result<usize, E>,
@@ -112,11 +97,8 @@ impl<E: Numbered> fmt::Display for Written<'_, E> {
         match self.answer {
             Ok(n) => write!(
                 f,
-                "{}",
-                Filled {
-                    bytes: first(self.out, n),
-                    most: self.most
-                }
+                ": written {n}{}",
+                Bytes(last(first(self.out, n), self.most))
             ),
             Err(r) => write!(f, "{}", Refused(r)),
         }
