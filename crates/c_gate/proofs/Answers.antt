@@ -10,9 +10,9 @@ use lib.IntN.{ℤ, pos, negsuc}
 use lib.ListN.{length, set}
 use mir.Syntax.{w8}
 use mir.Val.{SFits}
-use Rattle.gate_answers.specs.Answers.{ack, nak, busy, syn, count, position, is_position, Reading, reads, refuses, position_at, answer_reading}
+use Rattle.gate_answers.specs.Answers.{is_position, Reading, reads, refuses, position_at, answer_reading}
 use Rattle.gate_answers.specs.declared.BarrierAnswer.{BarrierAnswer}
-use Rattle.gate_answers.specs.declared.BarrierAnswer.TheVariants.{Ack, Nak, Busy, Syn, Count, Position}
+use Rattle.gate_answers.specs.declared.BarrierAnswer.TheVariants.{Position}
 use Rattle.c_answer.specs.Answer.{done, refused, Written}
 use Rattle.c_gate.specs.Answers.{answer_at, written_of, write_answer_call, kind_of, number_in, answer_told, read_answer_call}
 
@@ -32,38 +32,8 @@ module _ (z : ℤ) where
   unfolding position_at
   position_taken is h = rw (is, h)
 
--- the answer by the kind
+-- the call by the answer
 module _ (k : ℕ) (z : ℤ) where
-  pub at_ack : k ≡ ack → reads Ack ≡ answer_at k z
-  unfolding answer_at
-  at_ack e = rw e
-
-  pub at_nak : k ≡ nak → reads Nak ≡ answer_at k z
-  unfolding answer_at
-  at_nak e = rw e
-
-  pub at_busy : k ≡ busy → reads Busy ≡ answer_at k z
-  unfolding answer_at
-  at_busy e = rw e
-
-  pub at_syn : k ≡ syn → reads Syn ≡ answer_at k z
-  unfolding answer_at
-  at_syn e = rw e
-
-  pub at_count : {y : ℤ} → y ≡ z → k ≡ count → reads (Count y) ≡ answer_at k z
-  unfolding answer_at
-  at_count is e = rw (is, e)
-
-  pub at_position : k ≡ position → position_at z ≡ answer_at k z
-  unfolding answer_at
-  at_position e = rw e
-
-  pub at_unknown : (k ≡ ack → ⊥) → (k ≡ nak → ⊥) → (k ≡ busy → ⊥) → (k ≡ syn → ⊥) → (k ≡ count → ⊥) → (k ≡ position → ⊥) →
-      refuses 3 ≡ answer_at k z
-  unfolding answer_at
-  at_unknown a n b s c p = rw (ne_eqb k ack a, ne_eqb k nak n, ne_eqb k busy b, ne_eqb k syn s, ne_eqb k count c, ne_eqb k position p)
-
-  -- and the call by it
   pub writes : (out : List ℕ) {x : Reading} {w : Written} → x ≡ answer_at k z → w ≡ written_of x out → w ≡ write_answer_call k z out
   unfolding write_answer_call
   writes out is told = told ∙ ap (λ (r : Reading). written_of r out) is

@@ -4,14 +4,12 @@
 
 ghost use Rattle.std.specs.Prelude.{◌≡◌, true, length, Some, None};
 ghost use Rattle.base.specs.Choice.{pick};
-ghost use Rattle.gate_refusal.specs.Numbers.{number_of};
-ghost use Rattle.gate_refusal.specs.Writing.{given_of};
-ghost use Rattle.gate_receive.specs.Receive.{response_of, receive_of};
-ghost use Rattle.gate_commands.specs.Commands.{verdict_of, operating};
+ghost use Rattle.gate_receive.specs.Receive.{response_of};
+ghost use Rattle.gate_commands.specs.Commands.{verdict_of};
 ghost use Rattle.gate_answers.specs.Answers.{reading_of, position_at};
-ghost use Rattle.c_answer.specs.Answer.{done, refused, of_writing, written};
-ghost use Rattle.c_gate.specs.Bus.{write_call, state_words, state_of, state_at, fits, same, is_state, event_at, of_response, received, received_by, receive_call};
-ghost use Rattle.c_gate.specs.Commands.{is_bits, bits_at, bit_numbers, registers_at, of_verdict, operated, operated_by, operate_call, write_command_call};
+ghost use Rattle.c_answer.specs.Answer.{done, written};
+ghost use Rattle.c_gate.specs.Bus.{write_call, state_words, state_at, fits, is_state, event_at, of_response, received, receive_call};
+ghost use Rattle.c_gate.specs.Commands.{is_bits, bits_at, bit_numbers, of_verdict, operated, operate_call, write_command_call};
 ghost use Rattle.c_gate.specs.Answers.{answer_at, write_answer_call, kind_of, number_in, answer_told, read_answer_call};
 
 use gate_answers::{ACK, BUSY, BarrierAnswer, COUNT, NAK, POSITION, SYN};
@@ -266,35 +264,27 @@ pub fn hanraquin_gate_write_command(command: u8, function: u8, out: &mut [u8]) -
 fn position_at(number: i32) -> Result<BarrierAnswer, GateRefusal>
     ensures { reading_of result ≡ position_at number }
 {
-    if !gate_answers::is_position(number) {
-        return Err(GateRefusal::Position);
+    if gate_answers::is_position(number) {
+        Ok(BarrierAnswer::Position(number as i8))
+    } else {
+        Err(GateRefusal::Position)
     }
-    Ok(BarrierAnswer::Position(number as i8))
 }
 
 // The answer with a kind and a number.
+#[tactic(auto, unfolding(crate::specs::Answers::answer_at))]
 fn answer_at(kind: u8, number: i32) -> Result<BarrierAnswer, GateRefusal>
     ensures { reading_of result ≡ answer_at kind number }
 {
-    if kind == ACK {
-        return Ok(BarrierAnswer::Ack);
+    match kind {
+        ACK => Ok(BarrierAnswer::Ack),
+        NAK => Ok(BarrierAnswer::Nak),
+        BUSY => Ok(BarrierAnswer::Busy),
+        SYN => Ok(BarrierAnswer::Syn),
+        COUNT => Ok(BarrierAnswer::Count(number)),
+        POSITION => position_at(number),
+        _ => Err(GateRefusal::Kind),
     }
-    if kind == NAK {
-        return Ok(BarrierAnswer::Nak);
-    }
-    if kind == BUSY {
-        return Ok(BarrierAnswer::Busy);
-    }
-    if kind == SYN {
-        return Ok(BarrierAnswer::Syn);
-    }
-    if kind == COUNT {
-        return Ok(BarrierAnswer::Count(number));
-    }
-    if kind == POSITION {
-        return position_at(number);
-    }
-    Err(GateRefusal::Kind)
 }
 
 // The answer with this kind, its first byte, and this number: gate_answers::write_answer. The value is its length.
@@ -344,8 +334,7 @@ pub fn hanraquin_gate_read_answer(src: &[u8], number: &mut [i32]) -> u64
     }
     match gate_answers::read_answer(src) {
         Ok(answer) => {
-            let z = number_of(answer);
-            number[0] = z;
+            number[0] = number_of(answer);
             kind_of(answer)
         }
         Err(r) => c_answer::refused(r),

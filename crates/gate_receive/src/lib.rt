@@ -2,7 +2,7 @@
 #![tactic(auto)]
 
 ghost use Rattle.std.specs.Prelude.{◌≡◌, false, ◌≤◌, length};
-ghost use Rattle.gate_receive.specs.Receive.{reaction_of, response_of, overcounts, starting_again, outcome_of, to, nothing, refuses, rest_of, destination_of, source_of, length_of, data_of, others_length_of, dropping_of, accepted_of, judged_of, byte_of, event_of, receive_of};
+ghost use Rattle.gate_receive.specs.Receive.{reaction_of, response_of, overcounts, starting_again, outcome_of, to, nothing, refuses, rest_of, destination_of, length_of, data_of, dropping_of, accepted_of, judged_of, byte_of, receive_of};
 ghost use Rattle.gate_receive.specs.Private.Steps.{storing_of, judging_of};
 ghost use Rattle.gate_receive.specs.declared.GateState.TheVariants.{Rest};
 

@@ -15,7 +15,7 @@ returns-in-Ok c =
     let read = c in
     let told = ap reading_of (sym c.in-Ok.is) in
     tells _ _ read.if-number-ne1.false (told ∙ read.read_answer.ensures) c.kind_of.ensures
-    (to_z-of_z {w = w32} {z = c.number_of-z.result} (record { sfits = c.number_of-z.type_inv }) ∙ c.number_of-z.ensures)
+    (to_z-of_z {w = w32} {z = c.number_of.result} (record { sfits = c.number_of.type_inv }) ∙ c.number_of.ensures)
 
 pub returns-in-Err : goal.returns-in-Err
 returns-in-Err c =
