@@ -8,8 +8,7 @@ use native.Mathlib.Omega.{arith}
 use borrow.Author.Tests.{eqb-true, eq-eqb, ne_eqb}
 use lib.Dec.{eqb}
 use lib.ListN.{length, length-drop}
-use lib.Seq.{sets}
-use Rattle.base.proofs.Places.{take_rest, sets_all}
+use Rattle.base.proofs.Places.{take_rest}
 use Rattle.mop_reader.specs.Reading.{max_telegram}
 use Rattle.mop_reader.specs.declared.Reader.TheVariants.{Centre}
 use Rattle.mop_reader.proofs.ReadBack.{is_written}
@@ -51,10 +50,6 @@ module _ (telegram route run : List ℕ) where
   pub with_places : has_reply_places route run ≡ true → read_reply_call telegram route run ≡ reply_told_by (reply_reading telegram)
   unfolding read_reply_call
   with_places h = rw h
-
--- a route that is put into its places fills them all
-pub route_put : (stations route run : List ℕ) → has_reply_places route run ≡ true → length stations ≡ max_route → sets route 0 stations ≡ stations
-route_put stations route run has long = sets_all stations route (long ∙ sym (places_parts route run has).route_long)
 
 -- what is told of a telegram
 module _ (telegram : List ℕ) {told : Answer} (is : told ≡ (reply_reading telegram).answer) where

@@ -2,7 +2,7 @@
 // mop_centre::read_reply. include/hanraquin.h says it for the programmer.
 #![tactic(auto)]
 
-ghost use Rattle.std.specs.Prelude.{◌≡◌, true, [], ◌∷◌, length};
+ghost use Rattle.std.specs.Prelude.{◌≡◌, true};
 ghost use Rattle.mop_station.specs.Station.{handled_of};
 ghost use Rattle.mop_centre.specs.Reply.{reply_reading};
 ghost use Rattle.c_answer.specs.Answer.{written};
@@ -10,18 +10,17 @@ ghost use Rattle.c_mop.specs.Station.{of_handled, at_station, station_call};
 ghost use Rattle.c_mop.specs.Centre.{write_request_call, has_reply_places, reply_told, reply_told_by, read_reply_call};
 
 use c_answer::NOT_MINE;
-use mop_centre::{MAX_ROUTE, ReplyVerdict};
-use mop_station::StationAnswer;
+use mop_centre::MAX_ROUTE;
 use refusal::Refusal;
 
-// The answer of a station.
-fn of_handled(answer: StationAnswer) -> u64
+// The answer of a call that handles a telegram.
+fn of_handled(answer: Result<Option<usize>, Refusal>) -> u64
     ensures { result ≡ of_handled (handled_of answer) }
 {
     match answer {
-        StationAnswer::Sent(n) => n as u64,
-        StationAnswer::NotMine => NOT_MINE,
-        StationAnswer::Refused(r) => c_answer::refused(r),
+        Ok(Some(n)) => n as u64,
+        Ok(None) => NOT_MINE,
+        Err(r) => c_answer::refused(r),
     }
 }
 
@@ -29,7 +28,7 @@ fn of_handled(answer: StationAnswer) -> u64
 pub fn hanraquin_station(own: u8, registers: &mut [u16], telegram: &[u8], out: &mut [u8]) -> u64
     ensures { at_station result registers.new out.new ≡ station_call own registers.old telegram.now out.old }
 {
-    of_handled(mop_station::handle(own, &mut *registers, telegram, &mut *out))
+    of_handled(mop_station::handle(own, registers, telegram, out))
 }
 
 // A request to the last station of the route: mop_centre::write_request. The value is the telegram's length.
@@ -43,37 +42,22 @@ pub fn hanraquin_write_request(
 ) -> u64
     ensures { written result out.new ≡ write_request_call route.now rstart rcount wstart values.now out.old }
 {
-    c_answer::of_writing(mop_centre::write_request(
-        route, rstart, rcount, wstart, values, &mut *out,
-    ))
+    c_answer::of_writing(mop_centre::write_request(route, rstart, rcount, wstart, values, out))
 }
 
-// Writes a run as three numbers.
-fn put_run(start: u16, count: u16, place: u16, run: &mut [u16])
-    requires { length run.old ≡ 3 }
-    ensures { run.new ≡ start ∷ count ∷ place ∷ [] }
-{
-    run[0] = start;
-    run[1] = count;
-    run[2] = place;
-}
-
-// What a telegram says, to places that there are.
-fn tell_reply(telegram: &[u8], route: &mut [u8], run: &mut [u16]) -> u64
+// What a telegram says, to places that there are, and how many bytes its values have.
+fn tell_reply(telegram: &[u8], route: &mut [u8], run: &mut [u16]) -> Result<Option<usize>, Refusal>
     requires { has_reply_places route.old run.old ≡ true }
-    ensures { reply_told result route.new run.new ≡ reply_told_by (reply_reading telegram.now) }
+    ensures { reply_told (of_handled (handled_of result)) route.new run.new ≡ reply_told_by (reply_reading telegram.now) }
 {
-    let reply = mop_centre::read_reply(telegram);
-    let stations = reply.route;
-    places::put(&stations, &mut *route, 0);
-    let place = reply.values_at;
-    put_run(reply.start, reply.count as u16, place as u16, &mut *run);
-    let verdict = reply.verdict;
-    match verdict {
-        ReplyVerdict::Accepted => (telegram.len() - place) as u64,
-        ReplyVerdict::NotMine => NOT_MINE,
-        ReplyVerdict::Refused(r) => c_answer::refused(r),
-    }
+    route.fill(0);
+    run.fill(0);
+    let Some(reply) = mop_centre::read_reply(telegram)? else {
+        return Ok(None);
+    };
+    route.copy_from_slice(&reply.route);
+    run.copy_from_slice(&[reply.start, reply.count as u16, reply.values_at as u16]);
+    Ok(Some(telegram.len() - reply.values_at))
 }
 
 // What a reply to the centre says: mop_centre::read_reply. The stations of the route fill the 31 places of route, 0 behind them;
@@ -83,11 +67,8 @@ fn tell_reply(telegram: &[u8], route: &mut [u8], run: &mut [u16]) -> u64
 pub fn hanraquin_read_reply(telegram: &[u8], route: &mut [u8], run: &mut [u16]) -> u64
     ensures { reply_told result route.new run.new ≡ read_reply_call telegram.now route.old run.old }
 {
-    if route.len() != MAX_ROUTE {
+    if route.len() != MAX_ROUTE || run.len() != 3 {
         return c_answer::refused(Refusal::Setup);
     }
-    if run.len() != 3 {
-        return c_answer::refused(Refusal::Setup);
-    }
-    tell_reply(telegram, &mut *route, &mut *run)
+    of_handled(tell_reply(telegram, route, run))
 }

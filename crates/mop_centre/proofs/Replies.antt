@@ -2,15 +2,15 @@
 -- Assumes nothing.
 use mathlib.Core.Path.{◌≡◌, refl, sym, ◌∙◌, ap}
 use mathlib.Core.Bool.{Bool, true, false, not}
-use mathlib.Core.List.{List, []}
+use mathlib.Core.List.{List}
 use Prim.Native.Nat.{ℕ, ◌+◌, ◌-◌, ◌*◌, ◌≤◌, ◌<◌}
 use native.Mathlib.Omega.{arith}
 use borrow.Author.Tests.{eq-eqb, ne_eqb, eqb-true}
 use lib.Dec.{eqb}
-use lib.ListN.{length, take, drop, length-drop, drop_of_length-le, get_or-eq_default}
+use lib.ListN.{length, take, drop, length-drop, get_or-eq_default}
 use lib.Seq.{drop-drop}
 use Rattle.base.specs.Choice.{pick}
-use Rattle.base.proofs.Places.{take_rest, rest_from}
+use Rattle.base.proofs.Places.{rest_from}
 use Rattle.mop_block.specs.Block.{stations, first}
 use Rattle.mop_header.specs.Header.{Head, head_of, block_start, header_length, body_of}
 use Rattle.mop_block.proofs.Stations.{named_bound}
@@ -207,6 +207,3 @@ module _ (telegram : List ℕ) {told : Answer} (is : told ≡ (reply_reading tel
     pub stretch_place : (reply_reading telegram).begins ≡ at told.place
     unfolding read_out
     stretch_place = ap (λ (r : ReplyReading). r.begins) (reply_read telegram stretch.1) ∙ ap at (sym stretch.2)
-
-pub no_bytes : (telegram : List ℕ) → take (length telegram - length telegram) (drop (length telegram) telegram) ≡ []
-no_bytes telegram = take_rest (length telegram) telegram ∙ drop_of_length-le telegram {i = length telegram} (omega arith)

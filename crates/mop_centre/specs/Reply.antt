@@ -1,9 +1,10 @@
 -- What the centre reads in a telegram.
 -- Assumes nothing.
-use Rattle.std.specs.Prelude.{ℕ, ◌+◌, ◌-◌, ◌*◌, ◌≤◌, ◌≡◌, not, List, [], ◌++◌, eqb, length}
+use Rattle.std.specs.Prelude.{ℕ, ◌+◌, ◌-◌, ◌*◌, ◌≤◌, ◌≡◌, not, List, [], ◌++◌, Option, Some, None, Result, Ok, Err, eqb, length}
 use Rattle.std.specs.Borrow.{Bor}
 use Rattle.base.specs.Choice.{pick}
 use Rattle.refusal.specs.Numbers.{number_of}
+use Rattle.refusal.specs.declared.Refusal.{Refusal}
 use Rattle.mop_block.specs.Block.{stations, first}
 use Rattle.mop_block.specs.Zipper.{zeros}
 use Rattle.mop_header.specs.Header.{Head, header_length, body_of}
@@ -11,20 +12,13 @@ use Rattle.mop_reader.specs.Reading.{Reading, sound, faulty, reading}
 use Rattle.mop_reader.specs.declared.Reader.TheVariants.{Centre}
 use Rattle.mop_body.specs.Body.{read_start, read_count, value_bytes}
 use Rattle.mop_centre.specs.Request.{max_route}
-use Rattle.mop_centre.specs.declared.ReplyVerdict.{ReplyVerdict}
-use Rattle.mop_centre.specs.declared.ReplyVerdict.TheVariants.{Accepted, NotMine, Refused}
-use Rattle.mop_centre.specs.declared.ReplyRead.{ReplyRead}
+use Rattle.mop_centre.specs.declared.Reply.{Reply}
 
 -- what the centre says of a telegram: it is a reply for the centre; "not mine"; or the number of a refusal
 pub data Receipt : Type 0 where
   accepted : Receipt
   not_mine : Receipt
   refuses : ℕ → Receipt
-
-abbrev pub receipt_of : ReplyVerdict → Receipt
-receipt_of Accepted = accepted
-receipt_of NotMine = not_mine
-receipt_of (Refused r) = refuses (number_of r)
 
 -- 7 for a body that is not as long as its count says
 unfoldable pub judged_reply : List ℕ → Receipt
@@ -51,8 +45,11 @@ pub record Answer : Type 0 where
 abbrev pub told : Receipt → List ℕ → ℕ → ℕ → ℕ → Answer
 told receipt route start count place = record { receipt = receipt; route = route; start = start; count = count; place = place }
 
-abbrev pub answer_of : ReplyRead → Answer
-answer_of r = told (receipt_of r.verdict) r.route r.start r.count r.values_at
+-- the answer of the code; unless a reply is accepted, zeros stand beside the verdict
+abbrev pub answer_of : Result (Option Reply) Refusal → Answer
+answer_of (Ok (Some r)) = told accepted r.route r.start r.count r.values_at
+answer_of (Ok None) = told not_mine (zeros max_route) 0 0 0
+answer_of (Err r) = told (refuses (number_of r)) (zeros max_route) 0 0 0
 
 -- where in the telegram a stretch of it begins: at a place; or anywhere, which is left free
 pub data Place : Type 0 where

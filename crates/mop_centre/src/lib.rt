@@ -1,7 +1,7 @@
 // The centre of a net: it writes requests, and reads the replies to them.
 #![tactic(auto)]
 
-ghost use Rattle.std.specs.Prelude.{◌≡◌, ◌+◌, ◌*◌, ◌≤◌, eqb, length, take, drop};
+ghost use Rattle.std.specs.Prelude.{◌≡◌, ◌+◌, ◌*◌, ◌≤◌, Some, Ok, eqb, length, take, drop};
 ghost use Rattle.refusal.specs.Writing.{filling_of};
 ghost use Rattle.mop_block.specs.Block.{stations};
 ghost use Rattle.mop_block.specs.Zipper.{zeros};
@@ -10,7 +10,7 @@ ghost use Rattle.mop_reader.specs.Reading.{sound, max_entries, reading};
 ghost use Rattle.mop_reader.specs.declared.Reader.TheVariants.{Centre};
 ghost use Rattle.mop_body.specs.Body.{read_count, request_body};
 ghost use Rattle.mop_centre.specs.Request.{max_route, max_run, good_route, request_head, requesting};
-ghost use Rattle.mop_centre.specs.Reply.{receipt_of, answer_of, route_places, read_out, unread, reply_reading, Begins};
+ghost use Rattle.mop_centre.specs.Reply.{answer_of, route_places, read_out, reply_reading, Begins};
 
 use mop_header::{Form, Function, Header, MARK, NEW_CONTROL};
 use mop_reader::Reader;
@@ -22,18 +22,9 @@ pub const MAX_ROUTE: usize = 31;
 // The most registers of a run.
 const MAX_RUN: usize = 255;
 
-// What the centre says of a telegram: a reply for the centre, a telegram for a station, or a refusal.
+// What is read in a reply.
 #[derive(Clone, Copy)]
-pub enum ReplyVerdict {
-    Accepted,
-    NotMine,
-    Refused(Refusal),
-}
-
-// What is read in a telegram. Unless it is accepted, all but the verdict is 0.
-#[derive(Clone, Copy)]
-pub struct ReplyRead {
-    pub verdict: ReplyVerdict,
+pub struct Reply {
     // The stations in order, the destination last; 0 in the places that are left.
     pub route: [u8; MAX_ROUTE],
     // The number of the first register that was read, and how many were.
@@ -157,67 +148,45 @@ fn is_counted(body: &[u8]) -> bool
 }
 
 // What an accepted reply says.
-fn read_out(header: Header, block: &[u8], body: &[u8]) -> ReplyRead
+fn read_out(header: Header, block: &[u8], body: &[u8]) -> Reply
     requires in_bounds { 3 ≤ length body.now }
     requires block_len_bound { length (stations (head_of header block.now).block) ≤ max_route }
-    ensures { answer_of result ≡ (read_out (head_of header block.now) body.now).answer }
+    ensures { answer_of (Ok (Some result)) ≡ (read_out (head_of header block.now) body.now).answer }
 {
-    let route = route_of(header, block);
-    let start = words::word_of(body[0], body[1]);
-    let values_at = header.length() + 3;
-    ReplyRead {
-        verdict: ReplyVerdict::Accepted,
-        route,
-        start,
+    Reply {
+        route: route_of(header, block),
+        start: words::word_of(body[0], body[1]),
         count: body[2],
-        values_at,
-    }
-}
-
-// A verdict, beside zeros.
-fn unread(verdict: ReplyVerdict) -> ReplyRead
-    ensures { answer_of result ≡ (unread (receipt_of verdict)).answer }
-{
-    ReplyRead {
-        verdict,
-        route: [0u8; MAX_ROUTE],
-        start: 0,
-        count: 0,
-        values_at: 0,
+        values_at: header.length() + 3,
     }
 }
 
 // A telegram whose header was read: the first entry says whether it is for the centre, then the length of its body is tested.
-fn receive(header: Header, telegram: &[u8]) -> ReplyRead
+fn receive(header: Header, telegram: &[u8]) -> Result<Option<Reply>, Refusal>
     requires { reading Centre telegram.now ≡ sound (head_of header (drop (block_start header.form) telegram.now)) }
     ensures { answer_of result ≡ (reply_reading telegram.now).answer }
 {
-    let n = telegram.len();
-    let start = header.block_start();
-    let at = header.length();
-    let block = &telegram[start..n];
-    let body = &telegram[at..n];
+    let block = &telegram[header.block_start()..];
+    let body = &telegram[header.length()..];
     if header.first(block) != 0 {
-        return unread(ReplyVerdict::NotMine);
+        return Ok(None);
     }
     if !is_counted(body) {
-        return unread(ReplyVerdict::Refused(Refusal::BodyLength));
+        return Err(Refusal::BodyLength);
     }
-    read_out(header, block, body)
+    Ok(Some(read_out(header, block, body)))
 }
 
 // What a reply to the centre says: its route, the run that was read, and where its values begin. The values are given by
 // read_reply_values.
-// Not mine: the first entry of the block is a station's. Refused: 12, 2, 3, 4, 5, 6 for the header, where 3 is given for every
-// function byte but that of a reply, and 5 also for a block that names nobody; 7 for a body that is not as long as its count
-// says.
-pub fn read_reply(telegram: &[u8]) -> ReplyRead
+// None, not mine: the first entry of the block is a station's. Refused: 12, 2, 3, 4, 5, 6 for the header, where 3 is given for
+// every function byte but that of a reply, and 5 also for a block that names nobody; 7 for a body that is not as long as its
+// count says.
+pub fn read_reply(telegram: &[u8]) -> Result<Option<Reply>, Refusal>
     ensures { answer_of result ≡ (reply_reading telegram.now).answer }
 {
-    match mop_reader::read(Reader::Centre, telegram) {
-        Err(r) => unread(ReplyVerdict::Refused(r)),
-        Ok(header) => receive(header, telegram),
-    }
+    let header = mop_reader::read(Reader::Centre, telegram)?;
+    receive(header, telegram)
 }
 
 // The values of a reply, two bytes for each register that was read, the high one first. They are a part of the telegram itself,
@@ -226,13 +195,9 @@ pub fn read_reply_values(telegram: &[u8]) -> &[u8]
     ensures result_value { result.now ≡ (reply_reading telegram.now).values }
     ensures begins { Begins telegram.entry result (reply_reading telegram.now).begins }
 {
-    let reply = read_reply(telegram);
-    let at = reply.values_at;
-    let verdict = reply.verdict;
-    let n = telegram.len();
-    match verdict {
-        ReplyVerdict::Accepted => &telegram[at..n],
-        ReplyVerdict::NotMine => &telegram[n..n],
-        ReplyVerdict::Refused(_) => &telegram[n..n],
+    match read_reply(telegram) {
+        Ok(Some(reply)) => &telegram[reply.values_at..],
+        Ok(None) => &telegram[..0],
+        Err(_) => &telegram[..0],
     }
 }

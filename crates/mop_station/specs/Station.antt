@@ -1,16 +1,15 @@
 -- What a station does with a telegram.
 -- Assumes nothing.
-use Rattle.std.specs.Prelude.{ℕ, not, List, length}
+use Rattle.std.specs.Prelude.{ℕ, not, List, Option, Some, None, Result, Ok, Err, length}
 use Rattle.base.specs.Choice.{pick}
 use Rattle.base.specs.Places.{placed}
 use Rattle.refusal.specs.Numbers.{number_of}
+use Rattle.refusal.specs.declared.Refusal.{Refusal}
 use Rattle.mop_header.specs.Header.{telegram_of, body_of}
 use Rattle.mop_reader.specs.Reading.{Reading, sound, faulty, reading}
 use Rattle.mop_reader.specs.declared.Reader.TheVariants.{Station}
 use Rattle.mop_step.specs.Step.{Stepped, relays, answers, Step, is_station, stepping}
 use Rattle.mop_step.specs.Step as step
-use Rattle.mop_station.specs.declared.StationAnswer.{StationAnswer}
-use Rattle.mop_station.specs.declared.StationAnswer.TheVariants.{Sent, NotMine, Refused}
 
 -- what a station gives back: a telegram of so many bytes is sent; "not mine"; or the number of a refusal
 pub data Handled : Type 0 where
@@ -18,10 +17,11 @@ pub data Handled : Type 0 where
   not_mine : Handled
   refuses : ℕ → Handled
 
-abbrev pub handled_of : StationAnswer → Handled
-handled_of (Sent n) = sent n
-handled_of NotMine = not_mine
-handled_of (Refused r) = refuses (number_of r)
+-- the answer of the code
+abbrev pub handled_of : Result (Option ℕ) Refusal → Handled
+handled_of (Ok (Some n)) = sent n
+handled_of (Ok None) = not_mine
+handled_of (Err r) = refuses (number_of r)
 
 -- what is given back, and the table of registers and the output afterwards
 pub record Handling : Type 0 where
@@ -32,7 +32,7 @@ pub record Handling : Type 0 where
 abbrev pub leaving : Handled → List ℕ → List ℕ → Handling
 leaving h t out = record { handled = h; registers = t; output = out }
 
-abbrev pub handling_of : StationAnswer → List ℕ → List ℕ → Handling
+abbrev pub handling_of : Result (Option ℕ) Refusal → List ℕ → List ℕ → Handling
 handling_of r t out = leaving (handled_of r) t out
 
 -- a telegram in the first places of the output; there is room for it

@@ -11,6 +11,8 @@ use Rattle.mop_header.specs.Header.{Head, telegram_of}
 use Rattle.mop_step.specs.Body.{after_writes}
 use Rattle.mop_step.specs.Step.{Stepped, relays, answers, not_mine, refuses, Step, step, stepping, StepCall, lending, max_reply, RepliesFit, step_call_of}
 use Rattle.mop_header.specs.declared.Header.{Header}
+use Rattle.std.specs.Prelude.{Result, Ok}
+use Rattle.refusal.specs.declared.Refusal.{Refusal}
 use Rattle.mop_step.specs.declared.StationStep.{StationStep}
 use Rattle.mop_step.specs.declared.StationStep.TheVariants.{Answered}
 use Rattle.mop_step.proofs.Cases.{step_either}
@@ -53,19 +55,19 @@ module _ (own : ℕ) (h : Head) (body t reply : List ℕ) (room : ℕ) where
   lent_count = let s = stepping own h body t room in count_by s.stepped s.registers t reply body room (step_fits own h body t room)
 
   -- what a call of the step says of the step, by what it gave
-  module _ (r : StationStep) (slice after buffer : List ℕ) (call : step_call_of r slice after buffer ≡ lending (stepping own h body t room) t reply) where
-    pub answer_places : {g : Header} {n : ℕ} → r ≡ Answered g n → n ≤ max_reply
+  module _ (r : Result StationStep Refusal) (slice after buffer : List ℕ) (call : step_call_of r slice after buffer ≡ lending (stepping own h body t room) t reply) where
+    pub answer_places : {g : Header} {n : ℕ} → r ≡ Ok (Answered g n) → n ≤ max_reply
     answer_places e =
-        subst (λ (x : StationStep). (step_call_of x slice after buffer).count ≤ max_reply) e (subst (λ (x : StepCall). x.count ≤ max_reply) (sym call) lent_count)
+        subst (λ (x : Result StationStep Refusal). (step_call_of x slice after buffer).count ≤ max_reply) e (subst (λ (x : StepCall). x.count ≤ max_reply) (sym call) lent_count)
 
     module _ (places : max_reply ≤ length reply) where
       made : (step_call_of r slice after buffer).made ≡ stepping own h body t room
       made = ap (λ (x : StepCall). x.made) call ∙ lent_made places
 
-      pub made_as : {x : StationStep} → r ≡ x → (step_call_of x slice after buffer).made ≡ stepping own h body t room
-      made_as e = subst (λ (x : StationStep). (step_call_of x slice after buffer).made ≡ stepping own h body t room) e made
+      pub made_as : {x : Result StationStep Refusal} → r ≡ x → (step_call_of x slice after buffer).made ≡ stepping own h body t room
+      made_as e = subst (λ (x : Result StationStep Refusal). (step_call_of x slice after buffer).made ≡ stepping own h body t room) e made
 
-      pub fits_as : {x : StationStep} → r ≡ x → Fits (step_call_of x slice after buffer).made.stepped body room
+      pub fits_as : {x : Result StationStep Refusal} → r ≡ x → Fits (step_call_of x slice after buffer).made.stepped body room
       fits_as e = subst (λ (s : Step). Fits s.stepped body room) (sym (made_as e)) (step_fits own h body t room)
 
 pub replies_fit : RepliesFit

@@ -1,9 +1,10 @@
 -- What a station makes of a telegram whose header is in order: the step.
 -- Assumes nothing.
-use Rattle.std.specs.Prelude.{ℕ, zero, suc, ◌+◌, ◌*◌, ◌≤◌, ◌≡◌, Bool, not, ◌&&◌, List, eqb, ltb, length, take}
+use Rattle.std.specs.Prelude.{ℕ, zero, suc, ◌+◌, ◌*◌, ◌≤◌, ◌≡◌, Result, Ok, Err, Bool, not, ◌&&◌, List, eqb, ltb, length, take}
 use Rattle.base.specs.Choice.{pick}
 use Rattle.base.specs.Places.{placed}
 use Rattle.refusal.specs.Numbers.{number_of}
+use Rattle.refusal.specs.declared.Refusal.{Refusal}
 use Rattle.mop_registers.specs.Rows.{table_length}
 use Rattle.mop_registers.specs.Runs.{longest_run}
 use Rattle.mop_block.specs.Block.{is_address, first, next}
@@ -12,7 +13,7 @@ use Rattle.mop_header.specs.declared.Function.{Function}
 use Rattle.mop_header.specs.declared.Function.TheVariants.{Request, Reply}
 use Rattle.mop_step.specs.Body.{Acceptance, accepts, rejects, judged_body, after_writes, reply_body}
 use Rattle.mop_step.specs.declared.StationStep.{StationStep}
-use Rattle.mop_step.specs.declared.StationStep.TheVariants.{Relayed, Answered, NotMine, Refused}
+use Rattle.mop_step.specs.declared.StationStep.TheVariants.{Relayed, Answered, NotMine}
 
 -- what a station makes of a telegram: it relays it with this header and its own body; it answers it with this header and this
 -- body; "not mine"; or the number of a refusal
@@ -111,8 +112,8 @@ RepliesFit =
     (lending (stepping own h body t room) t reply).made ≡ stepping own h body t room
 
 -- what the code gives: its headers stand beside the same slice, and the body of an answer is the first places of the buffer
-abbrev pub step_call_of : StationStep → List ℕ → List ℕ → List ℕ → StepCall
-step_call_of (Relayed h) slice t reply = step_call (relays (head_of h slice)) t 0 reply
-step_call_of (Answered h n) slice t reply = step_call (answers (head_of h slice) (take n reply)) t n reply
-step_call_of NotMine slice t reply = step_call not_mine t 0 reply
-step_call_of (Refused r) slice t reply = step_call (refuses (number_of r)) t 0 reply
+abbrev pub step_call_of : Result StationStep Refusal → List ℕ → List ℕ → List ℕ → StepCall
+step_call_of (Ok (Relayed h)) slice t reply = step_call (relays (head_of h slice)) t 0 reply
+step_call_of (Ok (Answered h n)) slice t reply = step_call (answers (head_of h slice) (take n reply)) t n reply
+step_call_of (Ok NotMine) slice t reply = step_call not_mine t 0 reply
+step_call_of (Err r) slice t reply = step_call (refuses (number_of r)) t 0 reply

@@ -21,13 +21,12 @@ use refusal::Refusal;
 pub const REPLY_BODY: usize = 19;
 
 // What a step gives: the header of the telegram that is relayed, with its own body; the header of the reply, and how many bytes
-// its body has; "not mine"; or a refusal.
+// its body has; or "not mine".
 #[derive(Clone, Copy)]
 pub enum StationStep {
     Relayed(Header),
     Answered(Header, usize),
     NotMine,
-    Refused(Refusal),
 }
 
 // Whether an own address and a table are those of a station.
@@ -66,61 +65,59 @@ fn sent_back(header: Header, block: &[u8]) -> Header
 fn relayed_header(header: Header, block: &[u8]) -> Header
     ensures { head_of result block.now ≡ relayed header.function (head_of header block.now) }
 {
-    let function = header.function;
-    match function {
+    match header.function {
         Function::Request => header.rolled_left(),
         Function::Reply => sent_back(header, block),
     }
 }
 
 // A relay: the header that it sends on, or 11. It is given no registers, and of the body it looks at the length.
-fn relay(header: Header, block: &[u8], body: &[u8], room: usize) -> StationStep
+fn relay(header: Header, block: &[u8], body: &[u8], room: usize) -> Result<StationStep, Refusal>
     ensures { (t reply : List ℕ) → step_call_of result block.now t reply ≡ lending (relaying (head_of header block.now) body.now t room) t reply }
 {
     let sent = relayed_header(header, block);
     if !has_room(sent, body.len(), room) {
-        return StationStep::Refused(Refusal::OutputShort);
+        return Err(Refusal::OutputShort);
     }
-    StationStep::Relayed(sent)
-}
-
-// Whether a destination accepts a body, or why not.
-#[derive(Clone, Copy)]
-enum BodyVerdict {
-    Accepted,
-    Rejected(Refusal),
+    Ok(StationStep::Relayed(sent))
 }
 
 // Whether a destination accepts the runs of a request, or why not.
-fn judge_runs(rstart: u16, rcount: u8, wstart: u16, wcount: u8, values: &[u8]) -> BodyVerdict
+fn judge_runs(
+    rstart: u16,
+    rcount: u8,
+    wstart: u16,
+    wcount: u8,
+    values: &[u8],
+) -> Result<(), Refusal>
     ensures { acceptance_of result ≡ judged_runs rstart rcount wstart wcount (words_of values.now) }
 {
     if !mop_registers::run_exists(rstart, rcount) {
-        return BodyVerdict::Rejected(Refusal::NoRegister);
+        return Err(Refusal::NoRegister);
     }
     if !mop_registers::run_exists(wstart, wcount) {
-        return BodyVerdict::Rejected(Refusal::NoRegister);
+        return Err(Refusal::NoRegister);
     }
     if !mop_registers::run_may_write(wstart, wcount) {
-        return BodyVerdict::Rejected(Refusal::NoWrite);
+        return Err(Refusal::NoWrite);
     }
     if !mop_registers::run_takes(wstart, values) {
-        return BodyVerdict::Rejected(Refusal::ValueRange);
+        return Err(Refusal::ValueRange);
     }
-    BodyVerdict::Accepted
+    Ok(())
 }
 
 // Whether a destination accepts a body, or why not.
-fn judge_body(body: &[u8]) -> BodyVerdict
+fn judge_body(body: &[u8]) -> Result<(), Refusal>
     ensures { acceptance_of result ≡ judged_body body.now }
 {
     let n = body.len();
     if n < 6 {
-        return BodyVerdict::Rejected(Refusal::BodyLength);
+        return Err(Refusal::BodyLength);
     }
     let wcount = body[5];
     if n != 6 + 2 * wcount as usize {
-        return BodyVerdict::Rejected(Refusal::BodyLength);
+        return Err(Refusal::BodyLength);
     }
     let rstart = words::word_of(body[0], body[1]);
     let wstart = words::word_of(body[3], body[4]);
@@ -135,7 +132,7 @@ fn write_registers(body: &[u8], registers: &mut [u16])
     let n = body.len();
     let start = words::word_of(body[3], body[4]);
     let at = mop_registers::place_of(start as usize);
-    words::store_words(&body[6..n], &mut *registers, at);
+    words::store_words(&body[6..n], registers, at);
 }
 
 // Puts the body of the reply into the first places: its values are those of the table from the place of the read start on.
@@ -149,8 +146,8 @@ fn put_reply(body: &[u8], registers: &[u16], reply: &mut [u8])
     let count = body[2];
     let at = mop_registers::place_of(start as usize);
     let end = at + count as usize;
-    places::put(&body[0..3], &mut *reply, 0);
-    words::put_words(&registers[at..end], &mut *reply, 3);
+    places::put(&body[0..3], reply, 0);
+    words::put_words(&registers[at..end], reply, 3);
 }
 
 // Carries out a body that is accepted: 11, or all the writes, then the reads.
@@ -161,7 +158,7 @@ fn carry_out(
     registers: &mut [u16],
     room: usize,
     reply: &mut [u8],
-) -> StationStep
+) -> Result<StationStep, Refusal>
     requires body_value { judged_body body.now ≡ accepts }
     requires registers_len { length registers.old ≡ table_length }
     ensures { step_call_of result block.now registers.new reply.new ≡ lending (answering accepts (head_of header block.now) body.now registers.old room) registers.old reply.old }
@@ -171,14 +168,14 @@ fn carry_out(
     let count = body[2];
     let n = 3 + 2 * count as usize;
     if !has_room(sent, n, room) {
-        return StationStep::Refused(Refusal::OutputShort);
+        return Err(Refusal::OutputShort);
     }
     if reply.len() < n {
-        return StationStep::Refused(Refusal::OutputShort);
+        return Err(Refusal::OutputShort);
     }
-    write_registers(body, &mut *registers);
-    put_reply(body, &*registers, &mut *reply);
-    StationStep::Answered(sent, n)
+    write_registers(body, registers);
+    put_reply(body, registers, reply);
+    Ok(StationStep::Answered(sent, n))
 }
 
 // A destination: its refusals, or what it carries out.
@@ -189,16 +186,12 @@ fn answer(
     registers: &mut [u16],
     room: usize,
     reply: &mut [u8],
-) -> StationStep
+) -> Result<StationStep, Refusal>
     requires { length registers.old ≡ table_length }
     ensures { step_call_of result block.now registers.new reply.new ≡ lending (answering (judged_body body.now) (head_of header block.now) body.now registers.old room) registers.old reply.old }
 {
-    match judge_body(body) {
-        BodyVerdict::Rejected(r) => StationStep::Refused(r),
-        BodyVerdict::Accepted => {
-            carry_out(header, block, body, &mut *registers, room, &mut *reply)
-        }
-    }
+    judge_body(body)?;
+    carry_out(header, block, body, registers, room, reply)
 }
 
 // A telegram for this station: it is the destination of a request if the next entry is 00, and else a relay.
@@ -209,15 +202,14 @@ fn act(
     registers: &mut [u16],
     room: usize,
     reply: &mut [u8],
-) -> StationStep
+) -> Result<StationStep, Refusal>
     requires { length registers.old ≡ table_length }
     ensures { step_call_of result block.now registers.new reply.new ≡ lending (acting header.function (next (head_of header block.now).block) (head_of header block.now) body.now registers.old room) registers.old reply.old }
 {
-    let function = header.function;
-    match function {
+    match header.function {
         Function::Request => {
             if header.next(block) == 0 {
-                return answer(header, block, body, &mut *registers, room, &mut *reply);
+                return answer(header, block, body, registers, room, reply);
             }
             relay(header, block, body, room)
         }
@@ -238,14 +230,14 @@ pub fn step(
     registers: &mut [u16],
     room: usize,
     reply: &mut [u8],
-) -> StationStep
+) -> Result<StationStep, Refusal>
     ensures { step_call_of result block.now registers.new reply.new ≡ lending (stepping own (head_of header block.now) body.now registers.old room) registers.old reply.old }
 {
-    if !is_station(own, &*registers) {
-        return StationStep::Refused(Refusal::Setup);
+    if !is_station(own, registers) {
+        return Err(Refusal::Setup);
     }
     if header.first(block) != own {
-        return StationStep::NotMine;
+        return Ok(StationStep::NotMine);
     }
-    act(header, block, body, &mut *registers, room, &mut *reply)
+    act(header, block, body, registers, room, reply)
 }

@@ -3,18 +3,20 @@
 use mathlib.Core.Path.{sym, ◌∙◌}
 use Rattle.c_mop.proofs.Replies.{are_places, bad_route, bad_run, with_places}
 use Rattle.c_mop.proofs.hanraquin_read_reply.Goals as goal
+use Rattle.c_mop.proofs.hanraquin_read_reply.Goals.{then-route-ne-MAX_ROUTE-via-then-route-ne-MAX_ROUTE, then-route-ne-MAX_ROUTE-via-else-route-ne-MAX_ROUTE+then-run-ne3}
 
 pub returns-then-route-ne-MAX_ROUTE : goal.returns-then-route-ne-MAX_ROUTE
-returns-then-route-ne-MAX_ROUTE c = rw c.refused.ensures (sym (bad_route _ _ _ c.if-route-ne-MAX_ROUTE.true))
-
-pub returns-then-run-ne3 : goal.returns-then-run-ne3
-returns-then-run-ne3 c = rw c.refused-then-run-ne3.ensures (sym (bad_run _ _ _ c.if-run-ne3.true))
+returns-then-route-ne-MAX_ROUTE c =
+    rw c.refused.ensures
+    (elim c.then-route-ne-MAX_ROUTE.branch [
+      | then-route-ne-MAX_ROUTE-via-then-route-ne-MAX_ROUTE w ↦ sym (bad_route _ _ _ w.if-route-ne-MAX_ROUTE.true)
+      | then-route-ne-MAX_ROUTE-via-else-route-ne-MAX_ROUTE+then-run-ne3 w ↦ sym (bad_run _ _ _ w.if-run-ne3.true)
+    ])
 
 pub tell_reply-requires : goal.tell_reply-requires
-tell_reply-requires c =
-    let e = c in are_places _ _ e.if-route-ne-MAX_ROUTE.false e.if-run-ne3.false
+tell_reply-requires c = are_places _ _ c.if-route-ne-MAX_ROUTE.false c.if-run-ne3.false
 
 pub returns : goal.returns
 returns c =
-    let e = c in
-    c.tell_reply.ensures ∙ sym (with_places _ _ _ (are_places _ _ e.if-route-ne-MAX_ROUTE.false e.if-run-ne3.false))
+    rw c.of_handled.ensures c.tell_reply.ensures
+    ∙ sym (with_places _ _ _ (are_places _ _ c.if-route-ne-MAX_ROUTE.false c.if-run-ne3.false))

@@ -1,22 +1,17 @@
 -- `read_reply`: by what reading the header gives.
 -- Assumes nothing.
-use mathlib.Core.Path.{sym, ◌∙◌, ap}
-use Rattle.mop_reader.specs.Reading.{reading_of}
-use Rattle.std.specs.Prelude.{Result}
-use Rattle.refusal.specs.declared.Refusal.{Refusal}
-use Rattle.mop_header.specs.declared.Header.{Header}
-use Rattle.mop_centre.specs.Reply.{ReplyReading, receiving}
+use Rattle.std.proofs.lemmas.Result.{err_from_is_err_and}
+use mathlib.Core.Path.{sym, ap}
+use Rattle.mop_centre.specs.Reply.{ReplyReading, receiving, unread}
 use Rattle.mop_centre.proofs.Replies.{receipt_by, refused_read}
 use Rattle.mop_centre.proofs.read_reply.Goals as goal
 
-pub receive-requires : goal.receive-requires
-receive-requires c =
-    let a = c.args in
-    sym c.read.ensures ∙ ap (λ (r : Result Header Refusal). reading_of r a.telegram.now) c.in-Ok.is
-
-pub returns-in-Err : goal.returns-in-Err
-unfolding receiving
-returns-in-Err c =
+pub returns-in_err-header : goal.returns-in_err-header
+unfolding receiving unread
+returns-in_err-header c =
     let tg = c.args.telegram.now in
-    let read = sym c.read.ensures ∙ ap (λ (r : Result Header Refusal). reading_of r tg) c.in-Err.is in
-    c.unread.ensures ∙ sym (ap (λ (r : ReplyReading). r.answer) (refused_read tg (receipt_by tg (sym read))))
+    let e = err_from_is_err_and c.from_residual.result c.from_residual.ensures.1 in
+    rw (e.1, e.2) (sym (ap (λ (r : ReplyReading). r.answer) (refused_read tg (receipt_by tg c.in_err-header.ensures))))
+
+pub receive-requires : goal.receive-requires
+receive-requires c = sym c.in_ok-header.ensures

@@ -12,33 +12,21 @@ use mathlib.Core.List.{List}
 use mathlib.Core.Path.{◌∙◌, ap₂}
 use Rattle.mop_station.proofs.hear.Goals as goal
 
-pub slice_bounds-take_telegram-count : goal.slice_bounds-take_telegram-count
-slice_bounds-take_telegram-count c =
-    let s = c in
-    let h = s.args.header in
-    omega (arith, start_within h (drop (block_start h.form) s.args.telegram.now) c.block_start-start.ensures, s.requires)
+pub slice_bounds-block-count : goal.slice_bounds-block-count
+slice_bounds-block-count c =
+    let h = c.args.header in
+    omega (arith, start_within h (drop (block_start h.form) c.args.telegram.now) c.block_start.ensures, c.requires)
 
-pub slice_bounds-take_telegram-start : goal.slice_bounds-take_telegram-start
-slice_bounds-take_telegram-start c = slice_bounds-take_telegram-count c
-
-pub slice_bounds-take_telegram-count-2 : goal.slice_bounds-take_telegram-count-2
-slice_bounds-take_telegram-count-2 c =
-    let s = c in
-    let long = c.length-at.ensures (drop (block_start s.args.header.form) s.args.telegram.now) in
-    omega (arith, long, s.requires)
-
-pub slice_bounds-take_telegram-start-2 : goal.slice_bounds-take_telegram-start-2
-slice_bounds-take_telegram-start-2 c = slice_bounds-take_telegram-count-2 c
+pub slice_bounds-block-start : goal.slice_bounds-block-start
+slice_bounds-block-start c = slice_bounds-block-count c
 
 pub returns : goal.returns
 unfolding hearing body_of
 returns c =
-    let taken = c in
-    let p = taken in
-    let a = p.args in
+    let a = c.args in
     let t = a.telegram.now in
-    let block = rest_from t p.block_start-start.ensures in
-    let body = rest_from t (p.length-at.ensures (drop (block_start a.header.form) t)) in
+    let block = rest_from t c.block_start.ensures in
+    let body = rest_from t (c.length.ensures (drop (block_start a.header.form) t)) in
     let step : List ℕ → List ℕ → Step = λ k b.
     stepping a.own (head_of a.header k) b a.registers.now (length a.out.now) in
-    taken.take_telegram.ensures ∙ ap₂ (λ (k : List ℕ) (b : List ℕ). taking (step k b) b a.out.now) block body
+    c.take_telegram.ensures ∙ ap₂ (λ (k : List ℕ) (b : List ℕ). taking (step k b) b a.out.now) block body
