@@ -1,8 +1,10 @@
 // The centre's calls at their limits.
+use crate::limits::Output;
 use crate::net_limits::names;
 use crate::station_limits;
-use mop_centre::{ReplyRead, ReplyVerdict};
-use show::{BEFORE, Bytes, Kept, Refused, Start, Written, first};
+use mop_centre::{MAX_ROUTE, Reply};
+use refusal::Refusal;
+use show::{BEFORE, Bytes, Refused, Start, first};
 use std::{fmt, io};
 
 // A request over a route to read so many registers from 955 on and to write so many values from 300 on, into an output of so
@@ -18,20 +20,13 @@ fn write(
     let mut room = [BEFORE; 1025];
     let out = &mut room[..places.min(1025)];
     let answer = mop_centre::write_request(route, 955, reads, 300, first(&words, writes), out);
-    let stations = Start {
-        bytes: route,
-        most: 16,
-    };
-    let written = Written {
+    let stations = Start(route, 16);
+    let output = Output {
         answer,
         out: &room,
         most: 48,
     };
-    let kept = Kept {
-        buffer: &room,
-        from: answer.unwrap_or(0),
-    };
-    println!(rt; " {reads} {writes} {places}{stations}{written}{kept}")
+    println!(rt; " {reads} {writes} {places}{stations}{output}")
 }
 
 // So many stations. The first 65 are different; behind them is station 1.
@@ -53,34 +48,31 @@ fn count_case(
     write(rt, first(&[station; 2], n), reads, writes, places)
 }
 
+// Whether a reply is accepted.
 #[derive(Clone, Copy)]
-struct ShownVerdict(ReplyVerdict);
+struct Verdict(Result<Option<Reply>, Refusal>);
 
-impl fmt::Display for ShownVerdict {
+impl fmt::Display for Verdict {
     fn fmt<W: fmt::Write>(&self, f: &mut fmt::Formatter<W>) -> fmt::Result {
         match self.0 {
-            ReplyVerdict::Accepted => write!(f, ": accepted"),
-            ReplyVerdict::NotMine => write!(f, ": not mine"),
-            ReplyVerdict::Refused(r) => write!(f, "{}", Refused(r)),
+            Ok(Some(_)) => write!(f, ": accepted"),
+            Ok(None) => write!(f, ": not mine"),
+            Err(r) => write!(f, "{}", Refused(r)),
         }
     }
 }
 
-// Reads a telegram as a reply, and shows what it says, with the start of its values.
+// Reads a telegram as a reply, and shows what it says, or zeros where it is not accepted, with the start of its values.
 fn read(rt: &impl Print, telegram: &[u8]) -> io::Result<()> {
-    let reply = mop_centre::read_reply(telegram);
-    let values = mop_centre::read_reply_values(telegram);
-    let start = Start {
-        bytes: telegram,
-        most: 16,
+    let answer = mop_centre::read_reply(telegram);
+    let (route, start, count) = match answer {
+        Ok(Some(reply)) => (reply.route, reply.start, reply.count),
+        _ => ([0u8; MAX_ROUTE], 0, 0),
     };
-    print!(rt; "{start}{}", ShownVerdict(reply.verdict))?;
-    print!(rt;
-        "; route{}; run {} {}",
-        Bytes(&reply.route),
-        reply.start,
-        reply.count
-    )?;
+    let values = mop_centre::read_reply_values(telegram);
+    let shown = Start(telegram, 16);
+    print!(rt; "{shown}{}", Verdict(answer))?;
+    print!(rt; "; route{}; run {start} {count}", Bytes(&route))?;
     println!(rt; "; values{}", Bytes(first(values, 16)))
 }
 

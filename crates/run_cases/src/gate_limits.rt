@@ -1,32 +1,11 @@
 // The calls of the gate bus at their limits.
+use crate::limits::Output;
 use gate_answers::BarrierAnswer;
 use gate_commands::{GateRegisters, OperateAnswer};
 use gate_receive::{GateAnswer, GateEvent, GateState};
 use gate_refusal::GateRefusal;
-use show::{BEFORE, Kept, Refused, Start, Written, first, first_other};
+use show::{BEFORE, Kept, Refused, Start, first, first_other};
 use std::{fmt, io};
-
-// The answer of a call that writes, with the end of what is written, and how far the output is as before behind it.
-#[derive(Clone, Copy)]
-struct ShownOutput<'a> {
-    answer: Result<usize, GateRefusal>,
-    out: &'a [u8],
-}
-
-impl fmt::Display for ShownOutput<'_> {
-    fn fmt<W: fmt::Write>(&self, f: &mut fmt::Formatter<W>) -> fmt::Result {
-        let written = Written {
-            answer: self.answer,
-            out: self.out,
-            most: 7,
-        };
-        let kept = Kept {
-            buffer: self.out,
-            from: self.answer.unwrap_or(0),
-        };
-        write!(f, "{written}{kept}")
-    }
-}
 
 // Writes a telegram with n bytes of data into an output of so many places, and shows all that it gives.
 fn write_case(
@@ -40,8 +19,12 @@ fn write_case(
     let mut room = [BEFORE; 260];
     let out = &mut room[..places.min(260)];
     let answer = gate_telegram::write(destination, source, first(&src, n), out);
-    let shown = ShownOutput { answer, out: &room };
-    println!(rt; " {destination:02X} {source:02X} {n} {places}{shown}")
+    let output = Output {
+        answer,
+        out: &room,
+        most: 7,
+    };
+    println!(rt; " {destination:02X} {source:02X} {n} {places}{output}")
 }
 
 // The phase, and what it has of destination, source, length and count; 0 for what it does not have. The phase is R at rest; or it
@@ -167,12 +150,13 @@ fn command_case(rt: &impl Print, command: u8, function: u8) -> io::Result<()> {
 // Writes an answer into an output of so many places, and shows all that it gives.
 fn answer_case(rt: &impl Print, answer: BarrierAnswer, places: usize) -> io::Result<()> {
     let mut room = [BEFORE; 6];
-    let written = gate_answers::write_answer(answer, &mut room[..places.min(6)]);
-    let shown = ShownOutput {
-        answer: written,
+    let answer = gate_answers::write_answer(answer, &mut room[..places.min(6)]);
+    let output = Output {
+        answer,
         out: &room,
+        most: 7,
     };
-    println!(rt; "{shown}")
+    println!(rt; "{output}")
 }
 
 // Writes the answer with a position, whose byte is b.
@@ -185,7 +169,7 @@ fn position_case(rt: &impl Print, b: u8, z: i8, places: usize) -> io::Result<()>
 fn read_case(rt: &impl Print, kind: u8, other: u8, n: usize) -> io::Result<()> {
     let src = [kind, other, other, other, other, other];
     let bytes = first(&src, n);
-    print!(rt; "{}", Start { bytes, most: 6 })?;
+    print!(rt; "{}", Start(bytes, 6))?;
     match gate_answers::read_answer(bytes) {
         Ok(answer) => answer_case(rt, answer, 5),
         Err(r) => println!(rt; "{}", Refused(r)),

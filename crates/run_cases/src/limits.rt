@@ -1,6 +1,6 @@
 // The link's calls at their limits.
 use link_receive::{Dle, LinkAnswer, LinkEvent, LinkState, Phase};
-use refusal::Refusal;
+use refusal::{Numbered, Refusal};
 use show::{BEFORE, Bytes, Half, Kept, Refused, Written, first};
 use std::{fmt, io};
 
@@ -38,22 +38,37 @@ impl fmt::Display for ShownAnswer<'_> {
     }
 }
 
+// The answer of a call that writes, and how far its output is as before behind what is written.
+#[derive(Clone, Copy)]
+pub(crate) struct Output<'a, E> {
+    pub(crate) answer: Result<usize, E>,
+    pub(crate) out: &'a [u8],
+    pub(crate) most: usize,
+}
+
+impl<E: Numbered> fmt::Display for Output<'_, E> {
+    fn fmt<W: fmt::Write>(&self, f: &mut fmt::Formatter<W>) -> fmt::Result {
+        let Output { answer, out, most } = *self;
+        let kept = Kept {
+            buffer: out,
+            from: answer.unwrap_or(0),
+        };
+        write!(f, "{}{kept}", Written { answer, out, most })
+    }
+}
+
 // Frames n bytes of one value into an output of so many places, and shows all that it gives: of the frame its length and
 // its last three bytes.
 fn frame_case(rt: &impl Print, value: u8, n: usize, places: usize) -> io::Result<()> {
     let src = [value; 1025];
     let mut room = [BEFORE; 2052];
     let answer = link_frame::frame(first(&src, n), &mut room[..places.min(2052)]);
-    let written = Written {
+    let output = Output {
         answer,
         out: &room,
         most: 3,
     };
-    let kept = Kept {
-        buffer: &room,
-        from: answer.unwrap_or(0),
-    };
-    println!(rt; " {value:02X} {n} {places}{written}{kept}")
+    println!(rt; " {value:02X} {n} {places}{output}")
 }
 
 // One event at a phase with a count and check 44, with a buffer of so many places, and all that it gives.

@@ -39,10 +39,7 @@ impl fmt::Display for ShownAnswer<'_> {
     fn fmt<W: fmt::Write>(&self, f: &mut fmt::Formatter<W>) -> fmt::Result {
         match self.answer {
             Ok(Played { count, ending, length }) => {
-                let start = Start {
-                    bytes: first(self.out, length),
-                    most: 64,
-                };
+                let start = Start(first(self.out, length), 64);
                 let zeros = first_other(self.out, length, 0);
                 write!(f, ": played {count}{}; last{start}; 00 to {zeros}", Ending(ending))
             }
@@ -64,14 +61,8 @@ fn run(
     let tables = &mut values[..lent.min(PLACES)];
     let out = &mut room[..places.min(1025)];
     let answer = net_dry_run::dry_run(telegram, addresses, tables, out);
-    let net = Start {
-        bytes: addresses,
-        most: 16,
-    };
-    let start = Start {
-        bytes: telegram,
-        most: 16,
-    };
+    let net = Start(addresses, 16);
+    let start = Start(telegram, 16);
     print!(rt; "{net}; {lent} {places}{start}")?;
     let shown = ShownAnswer { answer, out: &room };
     let kept = Kept {

@@ -1,6 +1,6 @@
 // The station's call at its limits.
 use mop_registers::TABLE_LENGTH;
-use mop_station::StationAnswer;
+use refusal::Refusal;
 use show::{BEFORE, Kept, Refused, Start, first};
 use std::{array, fmt, io};
 
@@ -46,32 +46,21 @@ impl fmt::Display for KeptRegisters<'_> {
 // The answer of a station, with the start of what it sends.
 #[derive(Clone, Copy)]
 struct Sent<'a> {
-    answer: StationAnswer,
+    answer: Result<Option<usize>, Refusal>,
     out: &'a [u8],
 }
 
 impl fmt::Display for Sent<'_> {
     fn fmt<W: fmt::Write>(&self, f: &mut fmt::Formatter<W>) -> fmt::Result {
         match self.answer {
-            StationAnswer::Sent(n) => write!(
+            Ok(Some(n)) => write!(
                 f,
                 ": sent{}",
-                Start {
-                    bytes: first(self.out, n),
-                    most: 32
-                }
+                Start(first(self.out, n), 32)
             ),
-            StationAnswer::NotMine => write!(f, ": not mine"),
-            StationAnswer::Refused(r) => write!(f, "{}", Refused(r)),
+            Ok(None) => write!(f, ": not mine"),
+            Err(r) => write!(f, "{}", Refused(r)),
         }
-    }
-}
-
-// How many bytes a station sends.
-fn length_of(answer: StationAnswer) -> usize {
-    match answer {
-        StationAnswer::Sent(n) => n,
-        _ => 0,
     }
 }
 
@@ -82,14 +71,14 @@ fn call(rt: &impl Print, own: u8, lent: usize, telegram: &[u8], places: usize) -
     let table = &mut values[..lent.min(PLACES)];
     let out = &mut room[..places.min(1025)];
     let answer = mop_station::handle(own, table, telegram, out);
-    let start = Start {
-        bytes: telegram,
-        most: 16,
-    };
+    let start = Start(telegram, 16);
     let sent = Sent { answer, out: &room };
     let kept = Kept {
         buffer: &room,
-        from: length_of(answer),
+        from: match answer {
+            Ok(Some(n)) => n,
+            _ => 0,
+        },
     };
     println!(rt;
         " {own} {lent} {places}{start}{sent}{}{kept}",

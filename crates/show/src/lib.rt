@@ -57,19 +57,12 @@ impl fmt::Display for Bytes<'_> {
 
 // How many bytes there are, and the first of them, no more than so many.
 #[derive(Clone, Copy)]
-pub struct Start<'a> {
-    pub bytes: &'a [u8],
-    pub most: usize,
-}
+pub struct Start<'a>(pub &'a [u8], pub usize);
 
 impl fmt::Display for Start<'_> {
     fn fmt<W: fmt::Write>(&self, f: &mut fmt::Formatter<W>) -> fmt::Result {
-        write!(
-            f,
-            " {}{}",
-            self.bytes.len(),
-            Bytes(first(self.bytes, self.most))
-        )
+        let Start(bytes, most) = *self;
+        write!(f, " {}{}", bytes.len(), Bytes(first(bytes, most)))
     }
 }
 
