@@ -38,10 +38,20 @@ struct ShownAnswer<'a> {
 impl fmt::Display for ShownAnswer<'_> {
     fn fmt<W: fmt::Write>(&self, f: &mut fmt::Formatter<W>) -> fmt::Result {
         match self.answer {
-            Ok(Played { count, ending, length }) => {
+            Ok(
+                Played {
+                    count,
+                    ending,
+                    length,
+                },
+            ) => {
                 let start = Start(first(self.out, length), 64);
                 let zeros = first_other(self.out, length, 0);
-                write!(f, ": played {count}{}; last{start}; 00 to {zeros}", Ending(ending))
+                write!(
+                    f,
+                    ": played {count}{}; last{start}; 00 to {zeros}",
+                    Ending(ending)
+                )
             }
             Err(r) => write!(f, "{}", Refused(r)),
         }

@@ -53,11 +53,7 @@ struct Sent<'a> {
 impl fmt::Display for Sent<'_> {
     fn fmt<W: fmt::Write>(&self, f: &mut fmt::Formatter<W>) -> fmt::Result {
         match self.answer {
-            Ok(Some(n)) => write!(
-                f,
-                ": sent{}",
-                Start(first(self.out, n), 32)
-            ),
+            Ok(Some(n)) => write!(f, ": sent{}", Start(first(self.out, n), 32)),
             Ok(None) => write!(f, ": not mine"),
             Err(r) => write!(f, "{}", Refused(r)),
         }
