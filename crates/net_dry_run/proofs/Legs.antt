@@ -1,13 +1,11 @@
 -- A leg of a journey: what is left of the journey gives the whole, hop after hop.
 -- Assumes nothing.
-use mathlib.Core.Path.{◌≡◌, refl, sym, ◌∙◌, ap, ap₂, subst}
+use mathlib.Core.Path.{◌≡◌, refl, sym, ◌∙◌, ap, ap₂}
 use mathlib.Core.Bool.{true}
 use mathlib.Core.List.{List, [], ◌∷◌}
 use Prim.Native.Nat.{ℕ, zero, suc, ◌+◌, ◌-◌, ◌≤◌, ◌<◌}
-use native.Mathlib.Nat.{zero-add}
 use native.Mathlib.Omega.{arith}
 use lib.ListN.{length, take, drop}
-use Rattle.base.specs.Places.{placed}
 use Rattle.mop_header.specs.Header.{Head, head_of, block_start, header_length, telegram_of}
 use Rattle.mop_header.specs.declared.Header.{Header}
 use Rattle.mop_reader.specs.Reading.{sound, reading}
@@ -21,9 +19,8 @@ use Rattle.net_journey.specs.Terms.{last_telegram}
 use Rattle.net_journey.specs.Bounded.{calling, answered, heard_by, playing, most_transmissions}
 use Rattle.net_hop.specs.Tables.{net_of, set_up}
 use Rattle.net_hop.specs.Private.Ways.{OnItsWay}
-use Rattle.net_dry_run.specs.DryRun.{played, leaves, padded, of_course}
-use Rattle.net_dry_run.specs.Private.Legs.{Summary, summary_of, summary_from, LegEnds, LegTurns, Leads, of_summary}
-use Rattle.net_dry_run.specs.declared.Halt.{Halt}
+use Rattle.net_dry_run.specs.DryRun.{played, leaves, padded}
+use Rattle.net_dry_run.specs.Private.Legs.{summary_of, summary_from, LegEnds, LegTurns, of_summary}
 use Rattle.net_hop.proofs.Tables.{same_tables}
 use Rattle.net_hop.proofs.Lent.{whole_telegram}
 use Rattle.net_hop.proofs.Hops.{Goes, GoesOn, TurnsBack, Ends}
@@ -124,32 +121,29 @@ module _ {addresses places tables₀ : List ℕ} {before : ℕ} {h₀ : Head} {b
         }
 
     -- no more is looked at
-    pub leg_over : most_transmissions ≤ gone → LegEnds addresses tables₀ before h₀ body tables gone h at_zero
+    pub leg_over : {n : ℕ} → n ≡ most_transmissions → n ≤ gone → LegEnds addresses tables₀ before h₀ body tables n h at_zero
     unfolding playing
-    leg_over l =
+    leg_over {n} e l =
         let none : most_transmissions - gone ≡ 0 = omega arith in
+        let all : gone ≡ n = omega arith in
         record {
           whole = o.whole ∙ ap (λ (k : ℕ). summary_of gone (playing k (net_of addresses tables) (telegram_of h body))) none
-              ∙ summary_last gone (telegram_of h body) [] (net_of addresses tables) at_zero;
+              ∙ summary_last gone (telegram_of h body) [] (net_of addresses tables) at_zero
+              ∙ ap (λ (k : ℕ). record { count = k + 1; last = telegram_of h body; ending = at_zero; net = net_of addresses tables }) all;
           fits = o.way.set;
           short = short;
-          most = o.way.most;
+          most = omega arith;
         }
 
--- by why a leg stopped
-pub leads_as : (addresses places tables : List ℕ) (before : ℕ) (h : Head) (body after buffer : List ℕ) (gone : ℕ) (g : Head) {x y : Halt} →
-    x ≡ y → Leads addresses places tables before h body after buffer gone g x → Leads addresses places tables before h body after buffer gone g y
-leads_as addresses places tables before h body after buffer gone g e p = subst (Leads addresses places tables before h body after buffer gone g) e p
-
 -- what a run gives where a leg ended
-pub run_ends : {addresses tables : List ℕ} {before : ℕ} {h : Head} {body after : List ℕ} {gone : ℕ} {g : Head} {e : Ending} (out : List ℕ) →
+pub run_ends : {addresses tables : List ℕ} {before : ℕ} {h : Head} {body after : List ℕ} {gone : ℕ} {g : Head} {e : Ending} →
     LegEnds addresses tables before h body after gone g e →
-    leaves (played (gone + 1) e (length (telegram_of g body))) after (placed (padded (telegram_of g body)) out)
-    ≡ of_summary (summary_from before (net_of addresses tables) h body) out
-run_ends {addresses} {body = body} {after = after} {gone = gone} {g = g} {e = e} out p =
-    ap (λ (l : List ℕ). leaves (played (gone + 1) e (length (telegram_of g body))) l (placed (padded (telegram_of g body)) out))
+    leaves (played (gone + 1) e (length (telegram_of g body))) after (padded (telegram_of g body))
+    ≡ of_summary (summary_from before (net_of addresses tables) h body)
+run_ends {addresses} {body = body} {after = after} {gone = gone} {g = g} {e = e} p =
+    ap (λ (l : List ℕ). leaves (played (gone + 1) e (length (telegram_of g body))) l (padded (telegram_of g body)))
     (sym (same_tables addresses after p.fits))
-    ∙ ap (λ (s : Summary). of_summary s out) (sym p.whole)
+    ∙ ap of_summary (sym p.whole)
 
 -- nobody answers a reply
 pub never_turns : {X : Type 0} {addresses places tables : List ℕ} {before : ℕ} {h : Head} {body after : List ℕ} {gone : ℕ} {g : Head} {reply : List ℕ} →
@@ -165,9 +159,7 @@ module _ (read : Header) (tg addresses tables : List ℕ) (order : reading Stati
   abbrev body : List ℕ
   body = take (length tg - n) (drop n tg)
 
-  pub whole_run : (out : List ℕ) → of_summary (summary_from 0 (net_of addresses tables) (head_of read slice) body) out
-      ≡ of_course (playing most_transmissions (net_of addresses tables) tg) out
-  unfolding of_course
-  whole_run out =
-      ap (λ (l : List ℕ). of_summary (summary_of 0 (playing most_transmissions (net_of addresses tables) l)) out) (whole_telegram read tg order begins long)
-      ∙ rw (zero-add (length (playing most_transmissions (net_of addresses tables) tg).transmissions))
+  pub whole_run : of_summary (summary_from 0 (net_of addresses tables) (head_of read slice) body)
+      ≡ of_summary (summary_of 0 (playing most_transmissions (net_of addresses tables) tg))
+  whole_run =
+      ap (λ (l : List ℕ). of_summary (summary_of 0 (playing most_transmissions (net_of addresses tables) l))) (whole_telegram read tg order begins long)

@@ -2,25 +2,23 @@
 // step on the header; the entries of the block stay where the telegram has them, and the last telegram is written at the end.
 #![tactic(auto)]
 
-ghost use Rattle.std.specs.Prelude.{◌≡◌, true, ◌≤◌, length, take, drop, Ok};
-ghost use Rattle.base.specs.Places.{placed};
+ghost use Rattle.std.specs.Prelude.{◌≡◌, true, ◌≤◌, length, drop, Ok};
 ghost use Rattle.mop_header.specs.Header.{head_of, telegram_of, block_start};
 ghost use Rattle.mop_reader.specs.Reading.{sound, reading};
 ghost use Rattle.mop_reader.specs.declared.Reader.TheVariants.{Station};
 ghost use Rattle.mop_header.specs.declared.Function.TheVariants.{Reply};
-ghost use Rattle.mop_step.specs.Step.{max_reply};
 ghost use Rattle.net_journey.specs.Bounded.{playing, most_transmissions};
 ghost use Rattle.net_hop.specs.Tables.{net_of, set_up};
-ghost use Rattle.net_hop.specs.Hop.{places_of, ending_of};
-ghost use Rattle.net_hop.specs.Private.Ways.{OnItsWay};
-ghost use Rattle.net_dry_run.specs.DryRun.{played, outcome_of, dry_run_of, run_output, padded, of_course, dry_run};
-ghost use Rattle.net_dry_run.specs.Private.Legs.{summary_from, Leads, of_summary};
+ghost use Rattle.net_hop.specs.Hop.{ending_of};
+ghost use Rattle.net_dry_run.specs.DryRun.{played, outcome_of, dry_run_of, run_output, padded, dry_run};
+ghost use Rattle.net_dry_run.specs.Private.Legs.{Begins, Leads, summary_of, summary_of_leg, of_summary};
 
 use mop_header::Header;
 use mop_reader::{MAX_TELEGRAM, Reader};
 use mop_step::REPLY_BODY;
 use net_hop::{BYTES, HopAnswer, JourneyEnd, MOST_TRANSMISSIONS};
 use refusal::Refusal;
+use std::ops::ControlFlow;
 
 // The places of the output that a dry run fills, and asks for.
 const RUN_OUTPUT: usize = 1024;
@@ -33,210 +31,139 @@ pub struct Played {
     pub length: usize,
 }
 
-// Clears the places of out from `from` on, of those that a dry run fills.
-fn clear_from(from: usize, out: &mut [u8])
-    requires from_le_run_output { from ≤ run_output }
-    requires run_output_in_bounds { run_output ≤ length out.old }
-    ensures { out.new ≡ placed (padded (take from out.old)) out.old }
-{
-    let mut i = from;
-    while i < RUN_OUTPUT {
-        out[i] = 0;
-        i += 1;
-    }
+// What stays the same on a leg of a journey: the addresses of the stations, which are for the contracts, the table of their places,
+// the slice that has the block of the telegram, and its body.
+#[derive(Clone, Copy)]
+struct Leg<'a> {
+    addresses: &'a [u8],
+    places: &'a [u8; BYTES],
+    block: &'a [u8],
+    body: &'a [u8],
 }
 
-// Why a leg stopped: the journey ended, or a destination answered with a body of so many bytes.
+// Where a leg came to: the header then, how many transmissions were made before it, and whether the journey ended there, or a
+// destination answered with a body of so many bytes.
 #[derive(Clone, Copy)]
-enum Halt {
-    Ended(JourneyEnd),
-    Answered(usize),
-}
-
-// Where a leg came to: the header then, how many transmissions were made before it, and why it stopped.
-#[derive(Clone, Copy)]
-struct Leg {
+struct Stop {
     header: Header,
     gone: usize,
-    halt: Halt,
+    next: ControlFlow<JourneyEnd, usize>,
 }
 
-// A leg of a journey: hop after hop, until the journey ends or a destination answers. The addresses are for the contract. The loop
-// never uses up its turns, since no journey has more transmissions; so the answer behind it is never given.
-fn walk(
-    first: Header,
-    block: &[u8],
-    body: &[u8],
-    before: usize,
-    places: &[u8; BYTES],
-    addresses: &[u8],
-    tables: &mut [u16],
-    reply: &mut [u8],
-) -> Leg
-    requires on_its_way { OnItsWay addresses.now places.now tables.old before (head_of first block.now) body.now }
-    requires max_reply_in_bounds { max_reply ≤ length reply.old }
-    ensures { Leads addresses.now places.now tables.old before (head_of first block.now) body.now tables.new reply.new result.gone (head_of result.header block.now) result.halt }
-{
-    let mut header = first;
-    let mut gone = before;
-    while gone < MOST_TRANSMISSIONS {
-        match net_hop::hop(header, block, body, places, &mut *tables, &mut *reply) {
-            HopAnswer::Relayed(h) => {
-                header = h;
-                gone += 1;
-            }
-            HopAnswer::Answered(h, n) => {
-                return Leg {
-                    header: h,
-                    gone: gone + 1,
-                    halt: Halt::Answered(n),
-                };
-            }
-            HopAnswer::Ended(e) => {
-                return Leg {
-                    header,
-                    gone,
-                    halt: Halt::Ended(e),
-                };
+impl Leg<'_> {
+    // Hop after hop, until the journey ends or a destination answers. The loop never uses up its turns, since no journey has more
+    // transmissions; so the answer behind it is never given.
+    fn walk(
+        &self,
+        first: Header,
+        before: usize,
+        tables: &mut [u16],
+        reply: &mut [u8; REPLY_BODY],
+    ) -> Stop
+        requires { Begins self.now tables.old before first }
+        ensures { Leads self.now tables.old before first tables.new reply.new result }
+    {
+        let mut header = first;
+        for gone in before..MOST_TRANSMISSIONS {
+            match net_hop::hop(header, self.block, self.body, self.places, tables, reply) {
+                HopAnswer::Relayed(h) => header = h,
+                HopAnswer::Answered(h, n) => {
+                    return Stop {
+                        header: h,
+                        gone: gone + 1,
+                        next: ControlFlow::Continue(n),
+                    };
+                }
+                HopAnswer::Ended(e) => {
+                    return Stop {
+                        header,
+                        gone,
+                        next: ControlFlow::Break(e),
+                    };
+                }
             }
         }
+        Stop {
+            header,
+            gone: MOST_TRANSMISSIONS,
+            next: ControlFlow::Break(JourneyEnd::AtZero),
+        }
     }
-    Leg {
-        header,
-        gone,
-        halt: Halt::Ended(JourneyEnd::AtZero),
-    }
-}
 
-// Ends a run: the last telegram in the first places of out, and 0 behind it.
-fn end_run(
-    header: Header,
-    block: &[u8],
-    body: &[u8],
-    count: usize,
-    ending: JourneyEnd,
-    out: &mut [u8],
-) -> Played
-    requires body_len_bound { length (telegram_of (head_of header block.now) body.now) ≤ run_output }
-    requires run_output_in_bounds { run_output ≤ length out.old }
-    ensures result_value { outcome_of (Ok result) ≡ played count (ending_of ending) (length (telegram_of (head_of header block.now) body.now)) }
-    ensures out_after { out.new ≡ placed (padded (telegram_of (head_of header block.now) body.now)) out.old }
-{
-    let length = header.length() + body.len();
-    let _ = mop_header::write(header, block, body, &mut *out);
-    clear_from(length, &mut *out);
-    Played {
-        count,
-        ending,
-        length,
+    // Ends a run: the last telegram in the first places of out, and 0 behind it.
+    fn end(
+        &self,
+        header: Header,
+        count: usize,
+        ending: JourneyEnd,
+        out: &mut [u8; RUN_OUTPUT],
+    ) -> Played
+        requires { length (telegram_of (head_of header self.now.block.now) self.now.body.now) ≤ run_output }
+        ensures result_value { outcome_of (Ok result) ≡ played count (ending_of ending) (length (telegram_of (head_of header self.now.block.now) self.now.body.now)) }
+        ensures out_after { out.new ≡ padded (telegram_of (head_of header self.now.block.now) self.now.body.now) }
+    {
+        let length = mop_header::write(header, self.block, self.body, out).unwrap();
+        out[length..].fill(0);
+        Played {
+            count,
+            ending,
+            length,
+        }
     }
-}
 
-// The way home of a reply. It is only relayed, so that nobody answers it.
-fn go_home(
-    first: Header,
-    block: &[u8],
-    body: &[u8],
-    before: usize,
-    places: &[u8; BYTES],
-    addresses: &[u8],
-    tables: &mut [u16],
-    out: &mut [u8],
-) -> Played
-    requires on_its_way { OnItsWay addresses.now places.now tables.old before (head_of first block.now) body.now }
-    requires block_value { (head_of first block.now).function ≡ Reply }
-    requires run_output_in_bounds { run_output ≤ length out.old }
-    ensures { dry_run_of (Ok result) tables.new out.new ≡ of_summary (summary_from before (net_of addresses.now tables.old) (head_of first block.now) body.now) out.old }
-{
-    let mut unused = [0u8; REPLY_BODY];
-    let leg = walk(
-        first,
-        block,
-        body,
-        before,
-        places,
-        addresses,
-        &mut *tables,
-        &mut unused,
-    );
-    let last = leg.header;
-    let gone = leg.gone;
-    let halt = leg.halt;
-    match halt {
-        Halt::Ended(e) => end_run(last, block, body, gone + 1, e, &mut *out),
-        Halt::Answered(_) => unreachable!(),
-    }
-}
-
-// The journey of a telegram with this header: to its end, or to its destination and then home.
-fn run(
-    first: Header,
-    block: &[u8],
-    body: &[u8],
-    addresses: &[u8],
-    tables: &mut [u16],
-    out: &mut [u8],
-) -> Played
-    requires on_its_way { OnItsWay addresses.now (places_of addresses.now) tables.old 0 (head_of first block.now) body.now }
-    requires run_output_in_bounds { run_output ≤ length out.old }
-    ensures { dry_run_of (Ok result) tables.new out.new ≡ of_summary (summary_from 0 (net_of addresses.now tables.old) (head_of first block.now) body.now) out.old }
-{
-    let places = net_hop::places_of(addresses);
-    let mut reply = [0u8; REPLY_BODY];
-    let leg = walk(
-        first,
-        block,
-        body,
-        0,
-        &places,
-        addresses,
-        &mut *tables,
-        &mut reply,
-    );
-    let last = leg.header;
-    let gone = leg.gone;
-    let halt = leg.halt;
-    match halt {
-        Halt::Ended(e) => end_run(last, block, body, gone + 1, e, &mut *out),
-        Halt::Answered(n) => {
-            go_home(
-                last,
-                block,
-                &reply[0..n],
-                gone,
-                &places,
-                addresses,
-                &mut *tables,
-                &mut *out,
-            )
+    // The way home of a reply. It is only relayed, so that nobody answers it.
+    fn go_home(
+        &self,
+        first: Header,
+        before: usize,
+        tables: &mut [u16],
+        out: &mut [u8; RUN_OUTPUT],
+    ) -> Played
+        requires begins { Begins self.now tables.old before first }
+        requires is_reply { first.function ≡ Reply }
+        ensures { dry_run_of (Ok result) tables.new out.new ≡ of_summary (summary_of_leg self.now tables.old before first) }
+    {
+        let mut unused = [0u8; REPLY_BODY];
+        let stop = self.walk(first, before, tables, &mut unused);
+        match stop.next {
+            ControlFlow::Break(e) => self.end(stop.header, stop.gone + 1, e, out),
+            ControlFlow::Continue(_) => unreachable!(),
         }
     }
 }
 
-// The journey of a telegram that was read: its block, and the body behind it.
+// The journey of a telegram that was read: to its end, or to its destination and then home.
 fn play(
     header: Header,
     telegram: &[u8],
     addresses: &[u8],
     tables: &mut [u16],
-    out: &mut [u8],
+    out: &mut [u8; RUN_OUTPUT],
 ) -> Played
     requires telegram_value { reading Station telegram.now ≡ sound (head_of header (drop (block_start header.form) telegram.now)) }
     requires tables_value { set_up addresses.now tables.old ≡ true }
-    requires run_output_in_bounds { run_output ≤ length out.old }
-    ensures { dry_run_of (Ok result) tables.new out.new ≡ of_course (playing most_transmissions (net_of addresses.now tables.old) telegram.now) out.old }
+    ensures played { dry_run_of (Ok result) tables.new out.new ≡ of_summary (summary_of 0 (playing most_transmissions (net_of addresses.now tables.old) telegram.now)) }
+    ensures out_len { length out.new ≡ run_output }
 {
-    let n = telegram.len();
-    let at = header.length();
-    let start = header.block_start();
-    run(
-        header,
-        &telegram[start..n],
-        &telegram[at..n],
+    let places = net_hop::places_of(addresses);
+    let leg = Leg {
         addresses,
-        &mut *tables,
-        &mut *out,
-    )
+        places: &places,
+        block: &telegram[header.block_start()..],
+        body: &telegram[header.length()..],
+    };
+    let mut reply = [0u8; REPLY_BODY];
+    let stop = leg.walk(header, 0, tables, &mut reply);
+    match stop.next {
+        ControlFlow::Break(e) => leg.end(stop.header, stop.gone + 1, e, out),
+        ControlFlow::Continue(n) => {
+            let home = Leg {
+                body: &reply[..n],
+                ..leg
+            };
+            home.go_home(stop.header, stop.gone, tables, out)
+        }
+    }
 }
 
 // The dry run of a telegram over a net: the one journey of that net (`runs_the_journey`, specs/DryRun.antt), played on the
@@ -252,17 +179,15 @@ pub fn dry_run(
 ) -> Result<Played, Refusal>
     ensures { dry_run_of result tables.new out.new ≡ dry_run telegram.now addresses.now tables.old out.old }
 {
-    if !net_hop::is_set_up(addresses, &*tables) {
+    if !net_hop::is_set_up(addresses, tables) {
         return Err(Refusal::Setup);
     }
     if MAX_TELEGRAM < telegram.len() {
         return Err(Refusal::TooLong);
     }
-    if out.len() < RUN_OUTPUT {
+    let Some(out) = out.first_chunk_mut::<RUN_OUTPUT>() else {
         return Err(Refusal::OutputShort);
-    }
-    match mop_reader::read(Reader::Station, telegram) {
-        Err(r) => Err(r),
-        Ok(header) => Ok(play(header, telegram, addresses, &mut *tables, &mut *out)),
-    }
+    };
+    let header = mop_reader::read(Reader::Station, telegram)?;
+    Ok(play(header, telegram, addresses, tables, out))
 }

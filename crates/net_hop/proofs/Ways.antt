@@ -1,6 +1,6 @@
 -- A telegram that was read sets out.
 -- Assumes nothing.
-use mathlib.Core.Path.{◌≡◌, refl, sym, ◌∙◌, ap}
+use mathlib.Core.Path.{◌≡◌, sym, ◌∙◌, ap}
 use mathlib.Core.Bool.{true}
 use mathlib.Core.List.{List}
 use Prim.Native.Nat.{ℕ, ◌-◌}
@@ -24,10 +24,10 @@ module _ (read : Header) (tg addresses tables : List ℕ) (order : reading Stati
   abbrev body : List ℕ
   body = take (length tg - n) (drop n tg)
 
-  pub sets_out : OnItsWay addresses (places_of addresses) tables 0 (head_of read slice) body
-  sets_out = record {
+  pub sets_out : {places : List ℕ} → places ≡ places_of addresses → OnItsWay addresses places tables 0 (head_of read slice) body
+  sets_out known = record {
     set = set;
-    known = refl;
+    known = known;
     order = ap (reading Station) (whole_telegram read tg order begins long) ∙ order ∙ ap sound (sym (same_head read tg begins));
     most = omega arith;
   }

@@ -1,8 +1,9 @@
 -- A leg of a journey: hop after hop, until it ends or the destination answers. Only private contracts cite this.
 -- Assumes nothing.
 use Rattle.std.specs.Prelude.{ℕ, ◌+◌, ◌-◌, ◌≤◌, ◌≡◌, true, List, length, take}
-use Rattle.base.specs.Places.{placed}
-use Rattle.mop_header.specs.Header.{Head, telegram_of}
+use Rattle.std.specs.ControlFlow.{MatchControlFlow}
+use Rattle.mop_header.specs.Header.{Head, head_of, telegram_of}
+use Rattle.mop_header.specs.declared.Header.{Header}
 use Rattle.mop_header.specs.declared.Function.TheVariants.{Request, Reply}
 use Rattle.net_journey.specs.Net.{Net}
 use Rattle.net_journey.specs.Journey.{Ending, Course}
@@ -12,8 +13,8 @@ use Rattle.net_hop.specs.Tables.{net_of, tables_of, set_up}
 use Rattle.net_hop.specs.Hop.{ending_of}
 use Rattle.net_hop.specs.Private.Ways.{OnItsWay}
 use Rattle.net_dry_run.specs.DryRun.{played, DryRun, leaves, run_output, padded}
-use Rattle.net_dry_run.specs.declared.Halt.{Halt}
-use Rattle.net_dry_run.specs.declared.Halt.TheVariants.{Ended, Answered}
+use Rattle.net_dry_run.specs.declared.Leg.{Leg}
+use Rattle.net_dry_run.specs.declared.Stop.{Stop}
 
 -- what is looked at of a journey: the count, the last telegram, the ending and the net afterwards
 pub record Summary : Type 0 where
@@ -45,12 +46,23 @@ pub record LegTurns (addresses places tables : List ℕ) (before : ℕ) (h : Hea
   pub request : h.function ≡ Request
   pub back : g.function ≡ Reply
 
--- by why it stopped, in tables after and a buffer that has the body of a reply in its first places
-abbrev pub Leads : List ℕ → List ℕ → List ℕ → ℕ → Head → List ℕ → List ℕ → List ℕ → ℕ → Head → Halt → Type 0
-Leads addresses places tables before h body after buffer gone g (Ended e) = LegEnds addresses tables before h body after gone g (ending_of e)
-Leads addresses places tables before h body after buffer gone g (Answered n) =
-    (n ≤ length buffer) × LegTurns addresses places tables before h body after gone g (take n buffer)
+-- a leg begins with this header, with so many transmissions made before it, over these tables
+abbrev pub Begins : Leg → List ℕ → ℕ → Header → Type 0
+Begins l tables before first = OnItsWay l.addresses.now l.places.now tables before (head_of first l.block.now) l.body.now
 
--- what a dry run gives, by the summary of its journey
-abbrev pub of_summary : Summary → List ℕ → DryRun
-of_summary s out = leaves (played s.count s.ending (length s.last)) (tables_of s.net) (placed (padded s.last) out)
+-- where it came to, in tables after and a buffer that has the body of a reply in its first places
+abbrev pub Leads : Leg → List ℕ → ℕ → Header → List ℕ → List ℕ → Stop → Type 0
+Leads l tables before first after buffer s =
+    let h = head_of first l.block.now in
+    let g = head_of s.header l.block.now in
+    MatchControlFlow s.next
+    (λ n. (n ≤ length buffer) × LegTurns l.addresses.now l.places.now tables before h l.body.now after s.gone g (take n buffer))
+    (λ e. LegEnds l.addresses.now tables before h l.body.now after s.gone g (ending_of e))
+
+-- the summary of the journey that a leg begins so
+abbrev pub summary_of_leg : Leg → List ℕ → ℕ → Header → Summary
+summary_of_leg l tables before first = summary_from before (net_of l.addresses.now tables) (head_of first l.block.now) l.body.now
+
+-- what a dry run gives, by the summary of its journey, in the places that it fills
+abbrev pub of_summary : Summary → DryRun
+of_summary s = leaves (played s.count s.ending (length s.last)) (tables_of s.net) (padded s.last)

@@ -1,7 +1,7 @@
 -- `write_journey`: the leg out, and the leg home with the reply.
 -- Assumes nothing.
 use Prim.Native.Nat.{ℕ}
-use mathlib.Core.Path.{◌≡◌, ◌∙◌, subst}
+use mathlib.Core.Path.{◌≡◌, refl, ◌∙◌, subst}
 use native.Mathlib.Nat.{sub-zero}
 use native.Mathlib.Omega.{arith}
 use lib.ListN.{drop}
@@ -36,7 +36,7 @@ pub write_leg-requires : goal.write_leg-requires
 write_leg-requires c =
     let a = c.args in
     let p = c.requires in record {
-      on_its_way = sets_out a.header a.telegram.now a.addresses.now a.tables.now p.telegram_value p.tables_value c.block_start-start.ensures c.length-behind.ensures;
+      on_its_way = sets_out a.header a.telegram.now a.addresses.now a.tables.now p.telegram_value p.tables_value c.block_start-start.ensures c.length-behind.ensures refl;
       at_bound = omega arith;
       max_reply_in_bounds = search rules;
       report_output_in_bounds = p.report_output_in_bounds;
