@@ -18,6 +18,8 @@ use Rattle.mop_reader.specs.Reading.{sound, reading}
 use Rattle.mop_header.specs.declared.Function.TheVariants.{Request, Reply}
 use Rattle.mop_reader.specs.declared.Reader.TheVariants.{Station}
 use Rattle.mop_step.specs.Step.{Stepped, not_mine, refuses, Step, StepCall, stepping, lending, max_reply, step_call_of}
+use Rattle.std.specs.Prelude.{Result, Ok, Err}
+use Rattle.refusal.specs.declared.Refusal.{Refusal}
 use Rattle.mop_step.specs.declared.StationStep.{StationStep}
 use Rattle.mop_step.specs.declared.StationStep.TheVariants as made
 use Rattle.mop_step.specs.Step as step
@@ -199,25 +201,25 @@ answered_count places h body tables reply r slice after buffer call e =
     (subst (λ (x : Hop). x.count ≤ max_reply) (sym call) (at_count (first h.block) (get_or places (first h.block) 0) h body tables reply))
 
 -- what the code makes of a station's answer
-abbrev given_by : StationStep → HopAnswer
-given_by (made.Relayed h) = Relayed h
-given_by (made.Answered h n) = Answered h n
-given_by made.NotMine = Ended AtNobody
-given_by (made.Refused r) = Ended (Refused r)
+abbrev given_by : Result StationStep Refusal → HopAnswer
+given_by (Ok (made.Relayed h)) = Relayed h
+given_by (Ok (made.Answered h n)) = Answered h n
+given_by (Ok made.NotMine) = Ended AtNobody
+given_by (Err r) = Ended (Refused r)
 
-given_hop : (x : StationStep) (slice t buffer tables : List ℕ) (place : ℕ) →
+given_hop : (x : Result StationStep Refusal) (slice t buffer tables : List ℕ) (place : ℕ) →
     hop_of (given_by x) slice (put_table place t tables) buffer ≡ hop_by (step_call_of x slice t buffer) place tables
 unfolding hop_by hopped_by
-given_hop (made.Relayed h) slice t buffer tables place = refl
-given_hop (made.Answered h n) slice t buffer tables place = refl
-given_hop made.NotMine slice t buffer tables place = refl
-given_hop (made.Refused r) slice t buffer tables place = refl
+given_hop (Ok (made.Relayed h)) slice t buffer tables place = refl
+given_hop (Ok (made.Answered h n)) slice t buffer tables place = refl
+given_hop (Ok made.NotMine) slice t buffer tables place = refl
+given_hop (Err r) slice t buffer tables place = refl
 
 -- the step of the station at a place: start is where its table begins, and n the length of a table
-pub stepped_at : (own place : ℕ) (h : Head) (body tables reply : List ℕ) (r : StationStep) (slice t buffer : List ℕ) {start n : ℕ} →
+pub stepped_at : (own place : ℕ) (h : Head) (body tables reply : List ℕ) (r : Result StationStep Refusal) (slice t buffer : List ℕ) {start n : ℕ} →
     start ≡ table_length * place → n ≡ table_length →
     step_call_of r slice t buffer ≡ lending (stepping own h body (take n (drop start tables)) call_output) (take n (drop start tables)) reply →
-    {x : StationStep} → r ≡ x → hop_of (given_by x) slice (take start tables ++ (t ++ drop n (drop start tables))) buffer ≡ step_at own place h body tables reply
+    {x : Result StationStep Refusal} → r ≡ x → hop_of (given_by x) slice (take start tables ++ (t ++ drop n (drop start tables))) buffer ≡ step_at own place h body tables reply
 unfolding step_at put_table table_of
 stepped_at own place h body tables reply r slice t buffer es en call {x} e =
     rw (es, en, ← e) (given_hop r slice t buffer tables place ∙ ap (λ (c : StepCall). hop_by c place tables) (rw (es, en) at call))

@@ -86,10 +86,10 @@ fn step_at(
     let end = start + TABLE_LENGTH;
     let table = &mut tables[start..end];
     match mop_step::step(own, header, block, body, table, MAX_TELEGRAM, reply) {
-        StationStep::Relayed(h) => HopAnswer::Relayed(h),
-        StationStep::Answered(h, n) => HopAnswer::Answered(h, n),
-        StationStep::NotMine => HopAnswer::Ended(JourneyEnd::AtNobody),
-        StationStep::Refused(r) => HopAnswer::Ended(JourneyEnd::Refused(r)),
+        Ok(StationStep::Relayed(h)) => HopAnswer::Relayed(h),
+        Ok(StationStep::Answered(h, n)) => HopAnswer::Answered(h, n),
+        Ok(StationStep::NotMine) => HopAnswer::Ended(JourneyEnd::AtNobody),
+        Err(r) => HopAnswer::Ended(JourneyEnd::Refused(r)),
     }
 }
 

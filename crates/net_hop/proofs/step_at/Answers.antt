@@ -11,30 +11,26 @@ use Rattle.net_hop.proofs.step_at.Goals as goal
 size : (start : ℕ) → (start + table_length) - start ≡ table_length
 size start = omega arith
 
-pub returns-in-Relayed : goal.returns-in-Relayed
+pub returns-in-Ok-Relayed : goal.returns-in-Ok-Relayed
 unfolding table_length
-returns-in-Relayed c =
-    let s = c in
-    let a = s.args in
-    stepped_at a.own a.place _ _ _ _ _ _ _ _ refl (size (table_length * a.place)) s.step.ensures c.in-Relayed.is
+returns-in-Ok-Relayed c =
+    let a = c.args in
+    stepped_at a.own a.place _ _ _ _ _ _ _ _ refl (size (table_length * a.place)) c.step.ensures (rw c.in-Ok-Relayed.field-0-is at c.in-Ok-Relayed.is)
 
-pub returns-in-Answered : goal.returns-in-Answered
+pub returns-in-Ok-Answered : goal.returns-in-Ok-Answered
 unfolding table_length
-returns-in-Answered c =
-    let s = c in
-    let a = s.args in
-    stepped_at a.own a.place _ _ _ _ _ _ _ _ refl (size (table_length * a.place)) s.step.ensures c.in-Answered.is
+returns-in-Ok-Answered c =
+    let a = c.args in
+    stepped_at a.own a.place _ _ _ _ _ _ _ _ refl (size (table_length * a.place)) c.step.ensures (rw c.in-Ok-Answered.field-0-is at c.in-Ok-Answered.is)
 
-pub returns-in-NotMine : goal.returns-in-NotMine
+pub returns-in-Ok-NotMine : goal.returns-in-Ok-NotMine
 unfolding table_length
-returns-in-NotMine c =
-    let s = c in
-    let a = s.args in
-    stepped_at a.own a.place _ _ _ _ _ _ _ _ refl (size (table_length * a.place)) s.step.ensures c.in-NotMine.is
+returns-in-Ok-NotMine c =
+    let a = c.args in
+    stepped_at a.own a.place _ _ _ _ _ _ _ _ refl (size (table_length * a.place)) c.step.ensures (rw c.in-Ok-NotMine.field-0-is at c.in-Ok-NotMine.is)
 
-pub returns-in-Refused : goal.returns-in-Refused
+pub returns-in-Err : goal.returns-in-Err
 unfolding table_length
-returns-in-Refused c =
-    let s = c in
-    let a = s.args in
-    stepped_at a.own a.place _ _ _ _ _ _ _ _ refl (size (table_length * a.place)) s.step.ensures c.in-Refused.is
+returns-in-Err c =
+    let a = c.args in
+    stepped_at a.own a.place _ _ _ _ _ _ _ _ refl (size (table_length * a.place)) c.step.ensures c.in-Err.is
