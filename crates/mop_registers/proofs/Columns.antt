@@ -1,4 +1,4 @@
--- Access and range at a place, against the row there.
+-- Writes and ranges at a place, against the row there.
 -- Assumes nothing.
 use mathlib.Core.Path.{◌≡◌, refl, sym, ◌∙◌, ap, subst}
 use mathlib.Core.Bool.{Bool, true, false, ◌&&◌}
@@ -9,16 +9,15 @@ use borrow.Author.Tests.{eqb-true, eqb-false}
 use lib.Dec.{eqb}
 use lib.ListN.{drop_of_length-le}
 use Rattle.mop_registers.specs.Rows.{rows, table_length, place_of, write_of, range_of, may_write, takes}
-use Rattle.mop_registers.specs.Private.Columns.{allows_write, values_in, write_at, range_at}
-use Rattle.mop_registers.specs.declared.Access.{Access}
+use Rattle.mop_registers.specs.Private.Columns.{values_in, write_at, range_at}
 use Rattle.mop_registers.specs.declared.Range.{Range}
 use Rattle.mop_registers.proofs.Tests.{both_true}
 
 -- what is said of the place of a number's row is said of the number
 module _ (n : ℕ) {p : ℕ} (at : p ≡ place_of n) where
-  pub write_said : {a x : Access} → allows_write a ≡ write_at p → a ≡ x → allows_write x ≡ may_write n
+  pub write_said : {b : Bool} → b ≡ write_at p → b ≡ may_write n
   unfolding may_write write_at
-  write_said said told = sym (ap allows_write told) ∙ said ∙ ap write_at at
+  write_said said = said ∙ ap write_at at
 
   pub range_said : {r x : Range} → values_in r ≡ range_at p → r ≡ x → (v : ℕ) → values_in x v ≡ takes n v
   unfolding takes range_at

@@ -8,12 +8,13 @@ use Prim.Native.Nat.{ℕ, zero, suc, ◌+◌, ◌-◌, ◌≤◌, ◌<◌}
 use native.Mathlib.Nat.{add-zero, add-suc, suc-add}
 use native.Mathlib.Numerals.{add-one}
 use native.Mathlib.Omega.{arith}
-use borrow.Author.Tests.{leb-true, leb-false, eqb-true, eqb-false}
+use borrow.Author.Tests.{leb-true, leb-false, le-leb, eqb-true, eqb-false}
 use lib.Dec.{eqb, leb}
 use lib.ListN.{length, get_or, take, drop, set, length-set}
 use lib.Seq.{sets, drop-cons, get_or-set_same, get_or-set_other}
 use Rattle.mop_registers.specs.Rows.{from_to, table_length, place_of, exists, may_write, takes}
 use Rattle.mop_registers.specs.Runs.{run_exists, LongestRun, run_may_write, run_takes, writes, reads, KeptOrInRange, WritesInRange}
+use Rattle.std.specs.List.{list_all, range_with_len}
 use Rattle.mop_registers.proofs.Tests.{both_true}
 use Rattle.mop_registers.proofs.Places.{place_most, place_bound, place_apart, place_next, number_bound, taken_exists, no_nine}
 
@@ -31,19 +32,9 @@ unfolding run_may_write
 write_steps = record { none = λ s. refl; step = λ s c. refl }
 
 module _ {test : ℕ → Bool} {run : ℕ → ℕ → Bool} (w : Stepwise test run) where
-  pub run_on : (s c : ℕ) → 0 < c → test s ≡ true → run (s + 1) (c - 1) ≡ run s c
-  run_on s zero h t = absurd (omega arith)
-  run_on s (suc c) h t =
-      let less : suc c - 1 ≡ c = omega arith in
-      rw (add-one s, less, w.step s c, t)
-
-  pub run_off : (s c : ℕ) → 0 < c → test s ≡ false → run s c ≡ false
-  run_off s zero h t = absurd (omega arith)
-  run_off s (suc c) h t = rw (w.step s c, t)
-
-  pub run_over : (s c : ℕ) → c ≤ 0 → run s c ≡ true
-  run_over s zero h = w.none s
-  run_over s (suc c) h = absurd (omega arith)
+  pub all_run : (s c : ℕ) → list_all test (range_with_len s c) ≡ run s c
+  all_run s zero = sym (w.none s)
+  all_run s (suc c) = rw (w.step s c, add-one s) (ap (λ (b : Bool). test s && b) (all_run (suc s) c))
 
 pub run_empty : (s : ℕ) → run_exists s 0 ≡ true
 run_empty s = exists_steps.none s
@@ -68,7 +59,18 @@ run_places s c (suc i) r h =
     let next : exists (suc (s + i)) ≡ true = rw (← add-suc s i) (run_at s c (suc i) r h) in
     rw (add-suc s i, add-suc (place_of s) i) (place_next (s + i) (run_at s c i r before) next ∙ ap suc (run_places s c i r before))
 
--- a number from a first to a last one
+-- a number from a first to a last one, or not
+pub within : (first last n : ℕ) → first ≤ n → n ≤ last → from_to first last n ≡ true
+within first last n a b = rw (le-leb first n a, le-leb n last b)
+
+pub outside : (first last n : ℕ) → (first ≤ n → n ≤ last → ⊥) → from_to first last n ≡ false
+outside first last n apart = go (leb first n) refl (leb n last) refl
+  where
+    go : (a : Bool) → leb first n ≡ a → (b : Bool) → leb n last ≡ b → (leb first n && leb n last) ≡ false
+    go true e true f = absurd (apart (leb-true first n e) (leb-true n last f))
+    go true e false f = rw (e, f)
+    go false e b f = rw e
+
 module _ (first last n : ℕ) (within : from_to first last n ≡ true) where
   pub from_first : first ≤ n
   from_first = leb-true first n (both_true (leb first n) (leb n last) within).0

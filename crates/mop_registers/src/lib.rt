@@ -3,19 +3,12 @@
 
 ghost use Rattle.std.specs.Prelude.{◌≡◌};
 ghost use Rattle.base.specs.Words.{words_of};
-ghost use Rattle.mop_registers.specs.Rows.{time_of_day, place_of, may_write, takes, factory};
+ghost use Rattle.mop_registers.specs.Rows.{from_to, time_of_day, place_of, may_write, takes, factory};
 ghost use Rattle.mop_registers.specs.Runs.{run_exists, run_may_write, run_takes};
-ghost use Rattle.mop_registers.specs.Private.Columns.{allows_write, values_in, write_at, range_at};
+ghost use Rattle.mop_registers.specs.Private.Columns.{values_in, range_at};
 
 // The length of a station's table of values.
 pub const TABLE_LENGTH: usize = 18;
-
-// Whether a register takes writes.
-#[derive(Clone, Copy)]
-enum Access {
-    ReadOnly,
-    ReadWrite,
-}
 
 // The values that a register takes: any; from the least to the largest; these, or 65535; the times of day; these, or
 // 65535; none, where no register is.
@@ -31,32 +24,17 @@ enum Range {
 
 // The place of a register's value in a table; TABLE_LENGTH for a number that no register has. In a run of numbers a place is
 // as far from the run's first place as its number is from the run's first number.
+// No Option: a run of no registers may start at any number, and its values are then the empty end of the table.
 pub fn place_of(number: usize) -> usize
     ensures { result ≡ place_of number }
 {
-    if number == 2 {
-        0
-    } else if number == 300 {
-        1
-    } else if (931 <= number) & (number <= 936) {
-        2 + (number - 931)
-    } else if (952 <= number) & (number <= 953) {
-        8 + (number - 952)
-    } else if (955 <= number) & (number <= 962) {
-        10 + (number - 955)
-    } else {
-        TABLE_LENGTH
-    }
-}
-
-// The access to the register at a place. Where no register is, nothing is written.
-fn access_at(place: usize) -> Access
-    ensures { allows_write result ≡ write_at place }
-{
-    match place {
-        1 => Access::ReadWrite, // 300
-        8..=17 => Access::ReadWrite, // 952 to 962
-        _ => Access::ReadOnly, // 2, and 931 to 936
+    match number {
+        2 => 0,
+        300 => 1,
+        931..=936 => 2 + (number - 931),
+        952..=953 => 8 + (number - 952),
+        955..=962 => 10 + (number - 955),
+        _ => TABLE_LENGTH,
     }
 }
 
@@ -91,9 +69,10 @@ fn range_at(place: usize) -> Range
 fn may_write(number: usize) -> bool
     ensures { result ≡ may_write number }
 {
-    match access_at(place_of(number)) {
-        Access::ReadOnly => false,
-        Access::ReadWrite => true,
+    match place_of(number) {
+        1 => true, // 300
+        8..=17 => true, // 952 to 962
+        _ => false, // 2, 931 to 936, and where no register is
     }
 }
 
@@ -101,7 +80,14 @@ fn may_write(number: usize) -> bool
 fn is_time_of_day(value: u16) -> bool
     ensures { result ≡ time_of_day value }
 {
-    (value / 256 <= 23) & (value % 256 <= 59)
+    value / 256 <= 23 && value % 256 <= 59
+}
+
+// Whether a value is from a least to a largest.
+fn is_within(from: u16, to: u16, value: u16) -> bool
+    ensures { result ≡ from_to from to value }
+{
+    from <= value && value <= to
 }
 
 // Whether a value is in a register's range.
@@ -110,10 +96,10 @@ fn takes(number: usize, value: u16) -> bool
 {
     match range_at(place_of(number)) {
         Range::Any => true,
-        Range::FromTo(from, to) => (from <= value) & (value <= to),
-        Range::FromToOr65535(from, to) => ((from <= value) & (value <= to)) | (value == 65535),
+        Range::FromTo(from, to) => is_within(from, to, value),
+        Range::FromToOr65535(from, to) => is_within(from, to, value) || value == 65535,
         Range::TimeOfDay => is_time_of_day(value),
-        Range::TimeOfDayOr65535 => is_time_of_day(value) | (value == 65535),
+        Range::TimeOfDayOr65535 => is_time_of_day(value) || value == 65535,
         Range::NoValue => false,
     }
 }
@@ -122,32 +108,16 @@ fn takes(number: usize, value: u16) -> bool
 pub fn run_exists(start: u16, count: u8) -> bool
     ensures { result ≡ run_exists start count }
 {
-    let mut number = start as usize;
-    let mut left = count as usize;
-    while 0 < left {
-        if TABLE_LENGTH <= place_of(number) {
-            return false;
-        }
-        number += 1;
-        left -= 1;
-    }
-    true
+    let first = start as usize;
+    (first..first + count as usize).all(|number| place_of(number) < TABLE_LENGTH)
 }
 
 // Whether every register of a run takes writes.
 pub fn run_may_write(start: u16, count: u8) -> bool
     ensures { result ≡ run_may_write start count }
 {
-    let mut number = start as usize;
-    let mut left = count as usize;
-    while 0 < left {
-        if !may_write(number) {
-            return false;
-        }
-        number += 1;
-        left -= 1;
-    }
-    true
+    let first = start as usize;
+    (first..first + count as usize).all(|number| may_write(number))
 }
 
 // Whether every value of a run is in the range of its register. A value is two bytes, the high one first; an odd last
@@ -155,16 +125,11 @@ pub fn run_may_write(start: u16, count: u8) -> bool
 pub fn run_takes(start: u16, values: &[u8]) -> bool
     ensures { result ≡ run_takes start (words_of values.now) }
 {
-    let mut number = start as usize;
-    let mut i: usize = 0;
-    while 1 < values.len() - i {
-        let high = values[i];
-        let low = values[i + 1];
-        if !takes(number, high as u16 * 256 + low as u16) {
+    let first = start as usize;
+    for i in 0..values.len() / 2 {
+        if !takes(first + i, words::word_of(values[2 * i], values[2 * i + 1])) {
             return false;
         }
-        number += 1;
-        i += 2;
     }
     true
 }

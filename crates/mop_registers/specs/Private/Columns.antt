@@ -1,16 +1,9 @@
--- Access and range as the code has them, and what the row at a place says of them. Only private contracts cite this.
+-- The range as the code has it, and what the row at a place says of writes and of values. Only private contracts cite this.
 -- Assumes nothing.
-use Rattle.std.specs.Prelude.{ℕ, Bool, true, false, drop}
+use Rattle.std.specs.Prelude.{ℕ, Bool, false, drop}
 use Rattle.mop_registers.specs.Rows.{rows, any, from_to, time_of_day, or65535, write_of, range_of}
-use Rattle.mop_registers.specs.declared.Access.{Access}
-use Rattle.mop_registers.specs.declared.Access.TheVariants.{ReadOnly, ReadWrite}
 use Rattle.mop_registers.specs.declared.Range.{Range}
 use Rattle.mop_registers.specs.declared.Range.TheVariants.{Any, FromTo, FromToOr65535, TimeOfDay, TimeOfDayOr65535, NoValue}
-
--- whether a write is allowed
-abbrev pub allows_write : Access → Bool
-allows_write ReadOnly = false
-allows_write ReadWrite = true
 
 -- the values in a range
 abbrev pub values_in : Range → ℕ → Bool
