@@ -65,26 +65,17 @@ pub struct Operated {
 fn pair_after(level: bool, function: GateFunction, edge: bool) -> GatePair
     ensures { result ≡ after level function edge }
 {
-    match function {
-        GateFunction::Pulse => {
-            if level {
-                return GatePair { level: true, edge };
-            }
-            GatePair {
-                level: false,
-                edge: true,
-            }
-        }
-        GateFunction::Activate => {
-            if level {
-                return GatePair { level: true, edge };
-            }
-            GatePair {
-                level: true,
-                edge: true,
-            }
-        }
-        GateFunction::Deactivate => GatePair { level: false, edge },
+    match (level, function) {
+        (_, GateFunction::Deactivate) => GatePair { level: false, edge },
+        (true, _) => GatePair { level: true, edge },
+        (false, GateFunction::Pulse) => GatePair {
+            level: false,
+            edge: true,
+        },
+        (false, GateFunction::Activate) => GatePair {
+            level: true,
+            edge: true,
+        },
     }
 }
 
@@ -102,34 +93,29 @@ fn function_of(b: u8) -> Option<GateFunction>
 }
 
 // Carries out a function on the registers of a command, which there is.
-fn carry_out(registers: GateRegisters, command: u8, function: GateFunction) -> GateRegisters
+#[tactic(auto, unfolding(crate::specs::Commands::carried_out))]
+fn carry_out(mut registers: GateRegisters, command: u8, function: GateFunction) -> GateRegisters
     requires { command < 10 }
     ensures { result ≡ carried_out registers command function }
 {
     let at = command as usize;
-    let mut next = registers;
-    let pair = pair_after(next.levels[at], function, next.edges[at]);
-    next.levels[at] = pair.level;
-    next.edges[at] = pair.edge;
-    next
+    let pair = pair_after(registers.levels[at], function, registers.edges[at]);
+    registers.levels[at] = pair.level;
+    registers.edges[at] = pair.edge;
+    registers
 }
 
 // An operating command, by its two bytes.
+#[tactic(auto, unfolding(crate::specs::Commands::commanding, crate::specs::Commands::functioning))]
 fn command_answer(registers: GateRegisters, command: u8, function: u8) -> Operated
     ensures { operation_of result ≡ commanding registers command function }
 {
-    if COMMANDS <= command as usize {
-        return Operated {
-            answer: Ok(OperateAnswer::Nak),
-            registers,
-        };
-    }
     match function_of(function) {
-        Some(known) => Operated {
+        Some(known) if (command as usize) < COMMANDS => Operated {
             answer: Ok(OperateAnswer::Ack),
             registers: carry_out(registers, command, known),
         },
-        None => Operated {
+        _ => Operated {
             answer: Ok(OperateAnswer::Nak),
             registers,
         },
@@ -139,22 +125,21 @@ fn command_answer(registers: GateRegisters, command: u8, function: u8) -> Operat
 // An operating command carried out on the registers: ack and the registers after it; or nak, and the registers as they were,
 // for a command or a function that there is not. Refused, and the registers as they were: 7 for data that is not three bytes
 // long, then 3 for another first byte.
+#[tactic(auto, unfolding(crate::specs::Commands::operating))]
 pub fn operate(registers: GateRegisters, src: &[u8]) -> Operated
     ensures { operation_of result ≡ operating registers src.now }
 {
-    if src.len() != 3 {
-        return Operated {
-            answer: Err(GateRefusal::Length),
-            registers,
-        };
-    }
-    if src[0] != OPERATE {
-        return Operated {
+    match *src {
+        [OPERATE, command, function] => command_answer(registers, command, function),
+        [_, _, _] => Operated {
             answer: Err(GateRefusal::Kind),
             registers,
-        };
+        },
+        _ => Operated {
+            answer: Err(GateRefusal::Length),
+            registers,
+        },
     }
-    command_answer(registers, src[1], src[2])
 }
 
 // The operating command with these two bytes, whatever they are, in the first places of out, and its length; the other
@@ -165,6 +150,6 @@ pub fn write_command(command: u8, function: u8, out: &mut [u8]) -> Result<usize,
     if out.len() < 3 {
         return Err(GateRefusal::OutputShort);
     }
-    places::put(&[OPERATE, command, function], &mut *out, 0);
+    places::put(&[OPERATE, command, function], out, 0);
     Ok(3)
 }

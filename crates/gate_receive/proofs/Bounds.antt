@@ -1,25 +1,21 @@
 -- The counts of a state, and the guards of an event.
 -- Assumes nothing.
 use mathlib.Core.Path.{◌≡◌, ◌∙◌}
-use mathlib.Core.Bool.{true, false}
+use mathlib.Core.Bool.{false}
 use mathlib.Core.List.{List}
-use Prim.Native.Nat.{ℕ, ◌≤◌, ◌<◌}
-use borrow.Author.Tests.{eq-eqb, ne_eqb, lt-ltb, le-ltb, ltb-false}
+use Prim.Native.Nat.{ℕ, ◌≤◌}
+use borrow.Author.Tests.{eq-eqb, ne_eqb, le-ltb, ltb-false}
 use lib.Dec.{ltb}
 use lib.ListN.{length}
 use Rattle.base.proofs.Tests.{neither}
 use Rattle.gate_telegram.specs.Telegram.{reserved, max_data}
-use Rattle.gate_receive.specs.Receive.{nothing, refuses, to, starting_again, with, byte_of, event_of, overcounts, receive_of}
+use Rattle.gate_receive.specs.Receive.{byte_of, event_of, overcounts, receive_of}
 use Rattle.gate_receive.specs.declared.GateState.{GateState}
 use Rattle.gate_receive.specs.declared.GateState.TheVariants.{AtData, AtLowCheck, Dropping}
 use Rattle.gate_receive.specs.declared.GateEvent.{GateEvent}
-use Rattle.gate_receive.specs.declared.GateEvent.TheVariants.{Byte, Timer}
+use Rattle.gate_receive.specs.declared.GateEvent.TheVariants.{Byte}
 
 module _ (d s n k c : ℕ) where
-  pub data_too_long : max_data < n → overcounts (AtData d s n k c) ≡ true
-  unfolding overcounts
-  data_too_long h = simp (lt-ltb _ _ h)
-
   pub data_counts : n ≤ max_data → overcounts (AtData d s n k c) ≡ ltb n k
   unfolding overcounts
   data_counts h = simp (le-ltb _ _ h)
@@ -47,20 +43,6 @@ unfolding overcounts
 dropping_within left h = le-ltb 257 left h
 
 module _ (own : ℕ) (s : GateState) (st : List ℕ) (e : GateEvent) (out : List ℕ) where
-  pub receive_wrong_store : (length st ≡ max_data → ⊥) → receive_of own s st e out ≡ with (to (refuses 1) s) st out
-  unfolding receive_of
-  receive_wrong_store h = simp (ne_eqb _ _ h)
-
-  pub receive_overcounting : length st ≡ max_data → overcounts s ≡ true →
-      receive_of own s st e out ≡ with (to (refuses 1) s) st out
-  unfolding receive_of
-  receive_overcounting h k = simp (eq-eqb _ _ h, k)
-
-  pub receive_own : length st ≡ max_data → overcounts s ≡ false → own ≡ reserved →
-      receive_of own s st e out ≡ with (starting_again (refuses 16)) st out
-  unfolding receive_of
-  receive_own h k f = simp (eq-eqb _ _ h, k, eq-eqb _ _ f)
-
   pub receive_event : length st ≡ max_data → overcounts s ≡ false → (own ≡ reserved → ⊥) →
       receive_of own s st e out ≡ event_of own s st e out
   unfolding receive_of
@@ -71,8 +53,3 @@ module _ (own : ℕ) (s : GateState) (st out : List ℕ) where
       receive_of own s st (Byte b) out ≡ byte_of own s b st out
   unfolding event_of
   receive_byte b h k f = receive_event own s st (Byte b) out h k f
-
-  pub receive_timer : length st ≡ max_data → overcounts s ≡ false → (own ≡ reserved → ⊥) →
-      receive_of own s st Timer out ≡ with (starting_again nothing) st out
-  unfolding event_of
-  receive_timer h k f = receive_event own s st Timer out h k f

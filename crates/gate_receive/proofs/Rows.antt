@@ -1,10 +1,9 @@
 -- The rows of the receiver, one law for each case of a byte.
 -- Assumes nothing.
 use mathlib.Core.Path.{◌≡◌}
-use mathlib.Core.Bool.{true, false}
+use mathlib.Core.Bool.{false}
 use mathlib.Core.List.{List, [], ◌∷◌}
 use Prim.Native.Nat.{ℕ, ◌+◌, ◌-◌, ◌≤◌, ◌<◌}
-use native.Mathlib.Nat.{sub-zero}
 use borrow.Author.Tests.{eq-eqb, ne_eqb, lt-ltb, le-ltb, le-leb, lt-leb}
 use lib.ListN.{length, set, take}
 use lib.Seq.{sets, length-take-le}
@@ -36,10 +35,6 @@ module _ (own b : ℕ) where
   destination_other e = simp (ne_eqb _ _ e)
 
 module _ (d s c b : ℕ) where
-  pub length_over : max_data < b → length_of d s c b ≡ starting_again (refuses 7)
-  unfolding length_of
-  length_over h = simp (lt-ltb _ _ h)
-
   pub length_good : b ≤ max_data → length_of d s c b ≡ to nothing (AtData d s b 0 (ccitt_byte c b))
   unfolding length_of
   length_good h = simp (le-ltb _ _ h)
@@ -71,23 +66,13 @@ module _ (s n : ℕ) (st out : List ℕ) where
 
 -- the data of the store, put into the output
 pub data_put : (n : ℕ) (st out : List ℕ) → n ≤ length st → n ≤ length out →
-    sets out 0 (take (n - 0) st) ≡ placed (take n st) out
-data_put n st out h k = rw sub-zero (sets_placed (take n st) out (rw (length-take-le n st h) k))
+    sets out 0 (take n st) ≡ placed (take n st) out
+data_put n st out h k = sets_placed (take n st) out (rw (length-take-le n st h) k)
 
 module _ (d s n c h b : ℕ) (st out : List ℕ) where
   pub wrong_check : (word h b ≡ c → ⊥) → judged_of d s n c h b st out ≡ judging (starting_again (refuses 15)) out
   unfolding judged_of
   wrong_check e = simp (ne_eqb _ _ e)
-
-  pub bad_source : word h b ≡ c → s ≡ reserved →
-      judged_of d s n c h b st out ≡ judging (starting_again (refuses 16)) out
-  unfolding judged_of
-  bad_source e f = simp (eq-eqb _ _ e, eq-eqb _ _ f)
-
-  pub slave_token_lem : word h b ≡ c → (s ≡ reserved → ⊥) → slave_token d s n ≡ true →
-      judged_of d s n c h b st out ≡ judging (starting_again (refuses 16)) out
-  unfolding judged_of
-  slave_token_lem e f t = simp (eq-eqb _ _ e, ne_eqb _ _ f, t)
 
   pub right_check : word h b ≡ c → (s ≡ reserved → ⊥) → slave_token d s n ≡ false →
       judged_of d s n c h b st out ≡ accepted_of s n st out

@@ -106,29 +106,34 @@ fn start_again(answer: Result<GateAnswer, GateRefusal>) -> GateStep
 }
 
 // A byte at rest.
+#[tactic(auto, unfolding(crate::specs::Receive::rest_of))]
 fn rest_byte(b: u8) -> GateStep
     ensures { reaction_of result ≡ rest_of b }
 {
     if b == START_BYTE {
-        return go_on(GateState::AtDestination);
+        go_on(GateState::AtDestination)
+    } else {
+        go_on(GateState::Rest)
     }
-    go_on(GateState::Rest)
 }
 
 // The byte after the start byte.
+#[tactic(auto, unfolding(crate::specs::Receive::destination_of))]
 fn destination_byte(own: u8, b: u8) -> GateStep
     ensures { reaction_of result ≡ destination_of own b }
 {
     if b == own {
-        return go_on(GateState::AtSource {
+        go_on(GateState::AtSource {
             destination: b,
             check: ccitt::over(ccitt::START, &[START_BYTE, b]),
-        });
+        })
+    } else {
+        go_on(GateState::OthersSource)
     }
-    go_on(GateState::OthersSource)
 }
 
 // The length byte of a telegram for us.
+#[tactic(auto, unfolding(crate::specs::Receive::length_of))]
 fn length_byte(destination: u8, source: u8, check: u16, b: u8) -> GateStep
     ensures { reaction_of result ≡ length_of destination source check b }
 {
@@ -145,6 +150,7 @@ fn length_byte(destination: u8, source: u8, check: u16, b: u8) -> GateStep
 }
 
 // A data byte, or the high byte of the check behind the last one.
+#[tactic(auto, unfolding(crate::specs::Receive::data_of))]
 fn data_byte(
     destination: u8,
     source: u8,
@@ -152,33 +158,35 @@ fn data_byte(
     stored: usize,
     check: u16,
     b: u8,
-    store: &mut [u8],
+    store: &mut [u8; MAX_DATA],
 ) -> GateStep
-    requires { (size ≤ 253) × (length store.old ≡ 253) }
+    requires { size ≤ 253 }
     ensures { storing_of result store.new ≡ data_of destination source size stored check b store.old }
 {
     if stored < size as usize {
         store[stored] = b;
-        return go_on(GateState::AtData {
+        go_on(GateState::AtData {
             destination,
             source,
             size,
             stored: stored + 1,
             check: ccitt::byte(check, b),
-        });
+        })
+    } else {
+        go_on(GateState::AtLowCheck {
+            destination,
+            source,
+            size,
+            check,
+            high: b,
+        })
     }
-    go_on(GateState::AtLowCheck {
-        destination,
-        source,
-        size,
-        check,
-        high: b,
-    })
 }
 
 // An accepted telegram: a token, or its data into the output.
-fn accept(source: u8, size: u8, store: &[u8], out: &mut [u8]) -> GateStep
-    requires { size ≤ length store.now }
+#[tactic(auto, unfolding(crate::specs::Receive::accepted_of))]
+fn accept(source: u8, size: u8, store: &[u8; MAX_DATA], out: &mut [u8]) -> GateStep
+    requires { size ≤ 253 }
     ensures { judging_of result out.new ≡ accepted_of source size store.now out.old }
 {
     let n = size as usize;
@@ -188,11 +196,12 @@ fn accept(source: u8, size: u8, store: &[u8], out: &mut [u8]) -> GateStep
     if out.len() < n {
         return start_again(Err(GateRefusal::OutputShort));
     }
-    places::put(&store[0..n], &mut *out, 0);
+    places::put(&store[..n], out, 0);
     start_again(Ok(GateAnswer::Telegram { source, size }))
 }
 
 // The low byte of the check, at which the telegram is judged.
+#[tactic(auto, unfolding(crate::specs::Receive::judged_of))]
 fn low_check_byte(
     destination: u8,
     source: u8,
@@ -200,37 +209,43 @@ fn low_check_byte(
     check: u16,
     high: u8,
     b: u8,
-    store: &[u8],
+    store: &[u8; MAX_DATA],
     out: &mut [u8],
 ) -> GateStep
-    requires { size ≤ length store.now }
+    requires { size ≤ 253 }
     ensures { judging_of result out.new ≡ judged_of destination source size check high b store.now out.old }
 {
     if words::word_of(high, b) != check {
         return start_again(Err(GateRefusal::Check));
     }
-    if source == RESERVED {
+    if source == RESERVED || gate_telegram::is_slave_token(destination, source, size as usize) {
         return start_again(Err(GateRefusal::Address));
     }
-    if gate_telegram::is_slave_token(destination, source, size as usize) {
-        return start_again(Err(GateRefusal::Address));
-    }
-    accept(source, size, store, &mut *out)
+    accept(source, size, store, out)
 }
 
 // One byte less to drop.
+#[tactic(auto, unfolding(crate::specs::Receive::dropping_of))]
 fn dropped_byte(left: usize) -> GateStep
     ensures { reaction_of result ≡ dropping_of left }
 {
     if left <= 1 {
-        return go_on(GateState::Rest);
+        go_on(GateState::Rest)
+    } else {
+        go_on(GateState::Dropping { left: left - 1 })
     }
-    go_on(GateState::Dropping { left: left - 1 })
 }
 
 // A byte, in a state that does not overcount.
-fn take_byte(own: u8, state: GateState, b: u8, store: &mut [u8], out: &mut [u8]) -> GateStep
-    requires { (overcounts state ≡ false) × (length store.old ≡ 253) }
+#[tactic(auto, unfolding(crate::specs::Receive::byte_of, crate::specs::Receive::source_of, crate::specs::Receive::others_length_of))]
+fn take_byte(
+    own: u8,
+    state: GateState,
+    b: u8,
+    store: &mut [u8; MAX_DATA],
+    out: &mut [u8],
+) -> GateStep
+    requires { overcounts state ≡ false }
     ensures { outcome_of result store.new out.new ≡ byte_of own state b store.old out.old }
 {
     match state {
@@ -252,23 +267,14 @@ fn take_byte(own: u8, state: GateState, b: u8, store: &mut [u8], out: &mut [u8])
             size,
             stored,
             check,
-        } => data_byte(destination, source, size, stored, check, b, &mut *store),
+        } => data_byte(destination, source, size, stored, check, b, store),
         GateState::AtLowCheck {
             destination,
             source,
             size,
             check,
             high,
-        } => low_check_byte(
-            destination,
-            source,
-            size,
-            check,
-            high,
-            b,
-            &*store,
-            &mut *out,
-        ),
+        } => low_check_byte(destination, source, size, check, high, b, store, out),
         GateState::OthersSource => go_on(GateState::OthersLength),
         GateState::OthersLength => go_on(GateState::Dropping {
             left: b as usize + 2,
@@ -281,29 +287,15 @@ fn take_byte(own: u8, state: GateState, b: u8, store: &mut [u8], out: &mut [u8])
 const MOST_LEFT: usize = 257;
 
 // Whether a state counts more than its telegram can have.
+#[tactic(auto, unfolding(crate::specs::Receive::overcounts))]
 fn is_overcounting(state: GateState) -> bool
     ensures { result ≡ overcounts state }
 {
     match state {
-        GateState::AtData {
-            destination: _,
-            source: _,
-            size,
-            stored,
-            check: _,
-        } => {
-            if MAX_DATA < size as usize {
-                return true;
-            }
-            (size as usize) < stored
+        GateState::AtData { size, stored, .. } => {
+            MAX_DATA < size as usize || (size as usize) < stored
         }
-        GateState::AtLowCheck {
-            destination: _,
-            source: _,
-            size,
-            check: _,
-            high: _,
-        } => MAX_DATA < size as usize,
+        GateState::AtLowCheck { size, .. } => MAX_DATA < size as usize,
         GateState::Dropping { left } => MOST_LEFT < left,
         _ => false,
     }
@@ -325,6 +317,7 @@ fn refuse(state: GateState) -> GateStep
 // telegram can have. Every other refusal starts again: 16 at every event where own is FF; in a telegram for us 7 for a length
 // byte over MAX_DATA, and at its last byte 15 for its check, then 16 for the source FF or a token to or from a slave, then 11
 // for an output that is too short.
+#[tactic(auto, unfolding(crate::specs::Receive::receive_of, crate::specs::Receive::event_of))]
 pub fn receive(
     own: u8,
     state: GateState,
@@ -334,9 +327,9 @@ pub fn receive(
 ) -> GateStep
     ensures { outcome_of result store.new out.new ≡ receive_of own state store.old event out.old }
 {
-    if store.len() != MAX_DATA {
+    let Some(store) = store.as_mut_array() else {
         return refuse(state);
-    }
+    };
     if is_overcounting(state) {
         return refuse(state);
     }
@@ -344,7 +337,7 @@ pub fn receive(
         return start_again(Err(GateRefusal::Address));
     }
     match event {
-        GateEvent::Byte(b) => take_byte(own, state, b, &mut *store, &mut *out),
+        GateEvent::Byte(b) => take_byte(own, state, b, store, out),
         GateEvent::Timer => start_again(Ok(GateAnswer::Nothing)),
     }
 }

@@ -4,7 +4,7 @@
 ghost use Rattle.std.specs.Prelude.{◌≡◌, ◌+◌, ◌≤◌, length};
 ghost use Rattle.base.specs.Filling.{written};
 ghost use Rattle.gate_refusal.specs.Writing.{filling_of};
-ghost use Rattle.gate_telegram.specs.Telegram.{slave_token, telegram_of, telegram_writing};
+ghost use Rattle.gate_telegram.specs.Telegram.{slave_token, bad_addresses, telegram_of, telegram_writing};
 
 use crc16::ccitt;
 use gate_refusal::GateRefusal;
@@ -22,16 +22,19 @@ const LAST_MASTER: u8 = 0x0F;
 pub const MAX_DATA: usize = 253;
 
 // Whether a telegram with these addresses and so many bytes of data is a token to or from a slave.
+#[tactic(auto, unfolding(crate::specs::Telegram::slave_token))]
 pub fn is_slave_token(destination: u8, source: u8, n: usize) -> bool
     ensures { result ≡ slave_token destination source n }
 {
-    if n != 0 {
-        return false;
-    }
-    if LAST_MASTER < destination {
-        return true;
-    }
-    LAST_MASTER < source
+    n == 0 && (LAST_MASTER < destination || LAST_MASTER < source)
+}
+
+// Whether a telegram with so many bytes of data cannot be written for these addresses.
+#[tactic(auto, unfolding(crate::specs::Telegram::bad_addresses))]
+fn are_bad(destination: u8, source: u8, n: usize) -> bool
+    ensures { result ≡ bad_addresses destination source n }
+{
+    destination == RESERVED || source == RESERVED || is_slave_token(destination, source, n)
 }
 
 // Writes the telegram, for which the output has room.
@@ -42,9 +45,9 @@ fn write_telegram(destination: u8, source: u8, src: &[u8], out: &mut [u8]) -> Re
     let n = src.len();
     let head = [START_BYTE, destination, source, n as u8];
     let check = ccitt::over(ccitt::over(ccitt::START, &head), src);
-    places::put(&head, &mut *out, 0);
-    places::put(src, &mut *out, 4);
-    words::put_words(&[check], &mut *out, n + 4);
+    places::put(&head, out, 0);
+    places::put(src, out, 4);
+    words::put_words(&[check], out, n + 4);
     Ok(n + 6)
 }
 
@@ -55,13 +58,7 @@ pub fn write(destination: u8, source: u8, src: &[u8], out: &mut [u8]) -> Result<
     ensures { filling_of result out.new ≡ telegram_writing destination source src.now out.old }
 {
     let n = src.len();
-    if destination == RESERVED {
-        return Err(GateRefusal::Address);
-    }
-    if source == RESERVED {
-        return Err(GateRefusal::Address);
-    }
-    if is_slave_token(destination, source, n) {
+    if are_bad(destination, source, n) {
         return Err(GateRefusal::Address);
     }
     if MAX_DATA < n {
@@ -70,5 +67,5 @@ pub fn write(destination: u8, source: u8, src: &[u8], out: &mut [u8]) -> Result<
     if out.len() < n + 6 {
         return Err(GateRefusal::OutputShort);
     }
-    write_telegram(destination, source, src, &mut *out)
+    write_telegram(destination, source, src, out)
 }
