@@ -2,7 +2,9 @@
 #![tactic(auto)]
 
 ghost use Rattle.gate_refusal.specs.Numbers.{number_of};
-ghost use Rattle.gate_refusal.specs.Private.Numbers.{numbers_differ};
+ghost use Rattle.gate_refusal.specs.Private.Numbers.{told_apart};
+ghost use Rattle.gate_refusal.specs.declared.GateRefusal.TheVariants.{Setup, Kind, Length, Position, OutputShort, Check, Address};
+ghost use Rattle.std.specs.Prelude.{refl};
 
 use refusal::Numbered;
 
@@ -31,5 +33,5 @@ impl Numbered for GateRefusal {
         self as u8
     }
 
-    ghost differ = { numbers_differ };
+    ghost differ = { told_apart (elim [ Setup ↦ refl | Kind ↦ refl | Length ↦ refl | Position ↦ refl | OutputShort ↦ refl | Check ↦ refl | Address ↦ refl ]) };
 }
