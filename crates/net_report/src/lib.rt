@@ -8,7 +8,6 @@ ghost use Rattle.refusal.specs.Numbers.{number_of};
 ghost use Rattle.mop_header.specs.Header.{head_of, block_start};
 ghost use Rattle.mop_reader.specs.Reading.{sound, max_entries, reading};
 ghost use Rattle.mop_reader.specs.declared.Reader.TheVariants.{Station};
-ghost use Rattle.mop_step.specs.Step.{max_reply};
 ghost use Rattle.net_journey.specs.Bounded.{playing, most_transmissions};
 ghost use Rattle.net_hop.specs.Tables.{net_of, set_up};
 ghost use Rattle.net_hop.specs.Hop.{places_of, ending_of};
@@ -22,6 +21,7 @@ use mop_reader::Reader;
 use mop_step::REPLY_BODY;
 use net_hop::{HopAnswer, JourneyEnd};
 use refusal::{Numbered, Refusal};
+use std::ops::ControlFlow;
 
 // The places of the output that a report asks for: more than the longest text has characters.
 const REPORT_OUTPUT: usize = 6500;
@@ -31,10 +31,7 @@ fn hex_digit(n: u8) -> u8
     requires { n < 16 }
     ensures { result ≡ hex_digit n }
 {
-    if n < 10 {
-        return 0x30 + n;
-    }
-    0x41 + (n - 10)
+    if n < 10 { b'0' + n } else { b'A' + (n - 10) }
 }
 
 // Each function below that writes gives back the place behind what it wrote, and has a bound for it.
@@ -45,11 +42,7 @@ fn write_byte(b: u8, out: &mut [u8], at: usize) -> usize
     ensures out_after { writing_of result out.new ≡ writing at (hex_bytes (b ∷ [])) out.old }
     ensures upper_bound { result ≤ at + 3 }
 {
-    let high = hex_digit(b / 16);
-    let low = hex_digit(b % 16);
-    out[at] = 0x20;
-    out[at + 1] = high;
-    out[at + 2] = low;
+    places::put(&[b' ', hex_digit(b / 16), hex_digit(b % 16)], out, at);
     at + 3
 }
 
@@ -59,12 +52,9 @@ fn write_entries(header: Header, block: &[u8], out: &mut [u8], at: usize) -> usi
     ensures out_after { writing_of result out.new ≡ writing at (hex_bytes (head_of header block.now).block) out.old }
     ensures upper_bound { result ≤ at + 3 * length (head_of header block.now).block }
 {
-    let n = header.entry_count();
     let mut place = at;
-    let mut i: usize = 0;
-    while i < n {
-        place = write_byte(header.entry(block, i), &mut *out, place);
-        i += 1;
+    for i in 0..header.entry_count() {
+        place = write_byte(header.entry(block, i), out, place);
     }
     place
 }
@@ -76,11 +66,10 @@ fn write_decimal(n: u8, out: &mut [u8], at: usize) -> usize
     ensures upper_bound { result ≤ at + 2 }
 {
     if n < 10 {
-        out[at] = 0x30 + n;
+        out[at] = b'0' + n;
         return at + 1;
     }
-    out[at] = 0x30 + n / 10;
-    out[at + 1] = 0x30 + n % 10;
+    places::put(&[b'0' + n / 10, b'0' + n % 10], out, at);
     at + 2
 }
 
@@ -91,11 +80,10 @@ fn write_line(number: u8, header: Header, block: &[u8], out: &mut [u8], at: usiz
     ensures out_after { writing_of result out.new ≡ writing at (head_line number (head_of header block.now)) out.old }
     ensures upper_bound { result ≤ at + most_characters }
 {
-    let function = header.function;
-    let mut place = write_decimal(number, &mut *out, at);
-    place = write_byte(mop_header::function_byte(function), &mut *out, place);
-    place = write_entries(header, block, &mut *out, place);
-    out[place] = 0x0A;
+    let mut place = write_decimal(number, out, at);
+    place = write_byte(mop_header::function_byte(header.function), out, place);
+    place = write_entries(header, block, out, place);
+    out[place] = b'\n';
     place + 1
 }
 
@@ -105,8 +93,8 @@ fn write_refused(refusal: Refusal, out: &mut [u8], at: usize) -> usize
     ensures out_after { writing_of result out.new ≡ writing at (refused_text (number_of refusal)) out.old }
     ensures upper_bound { result ≤ at + 10 }
 {
-    places::put(b"refused ", &mut *out, at);
-    write_decimal(refusal.number(), &mut *out, at + 8)
+    places::put(b"refused ", out, at);
+    write_decimal(refusal.number(), out, at + 8)
 }
 
 // What follows the count.
@@ -116,11 +104,10 @@ fn write_ending(end: JourneyEnd, out: &mut [u8], at: usize) -> usize
     ensures upper_bound { result ≤ at + 11 }
 {
     match end {
-        JourneyEnd::AtZero => at,
-        JourneyEnd::AtNobody => at,
+        JourneyEnd::AtZero | JourneyEnd::AtNobody => at,
         JourneyEnd::Refused(refusal) => {
-            out[at] = 0x20;
-            write_refused(refusal, &mut *out, at + 1)
+            out[at] = b' ';
+            write_refused(refusal, out, at + 1)
         }
     }
 }
@@ -131,10 +118,10 @@ fn write_closing(count: u8, end: JourneyEnd, out: &mut [u8], at: usize) -> usize
     ensures out_after { writing_of result out.new ≡ writing at (closing count (ending_of end)) out.old }
     ensures upper_bound { result ≤ at + 19 }
 {
-    places::put(b"sent ", &mut *out, at);
-    let mut place = write_decimal(count, &mut *out, at + 5);
-    place = write_ending(end, &mut *out, place);
-    out[place] = 0x0A;
+    places::put(b"sent ", out, at);
+    let mut place = write_decimal(count, out, at + 5);
+    place = write_ending(end, out, place);
+    out[place] = b'\n';
     place + 1
 }
 
@@ -144,21 +131,23 @@ fn write_outright(refusal: Refusal, out: &mut [u8]) -> usize
     ensures out_after { writing_of result out.new ≡ writing 0 (outright_text (number_of refusal)) out.old }
     ensures upper_bound { result ≤ 11 }
 {
-    let place = write_refused(refusal, &mut *out, 0);
-    out[place] = 0x0A;
+    let place = write_refused(refusal, out, 0);
+    out[place] = b'\n';
     place + 1
 }
 
-// Where a leg came to: the journey ended, and its text ends before this place; or a destination answered: the header of the reply,
-// how many bytes its body has, how many transmissions are told, and the place behind their lines.
+// Where a destination answered: the header of the reply, how many bytes its body has, how many transmissions are told, and the place
+// behind their lines.
 #[derive(Clone, Copy)]
-enum LegEnd {
-    Told(usize),
-    Answered(Header, usize, u8, usize),
+struct Turn {
+    header: Header,
+    length: usize,
+    told: u8,
+    place: usize,
 }
 
-// A leg of a journey, told from a place on: a line for each transmission. Where the journey ends the last line follows; where a
-// destination answers the leg stops. The return at the bound is never taken, since no journey has more transmissions.
+// A leg of a journey, told from a place on: a line for each transmission. Where the journey ends the last line follows, and the text
+// ends before the place given back; where a destination answers the leg stops. The return at the bound is never taken, since no journey has more transmissions.
 fn write_leg(
     first: Header,
     block: &[u8],
@@ -166,13 +155,12 @@ fn write_leg(
     before: u8,
     addresses: &[u8],
     tables: &mut [u16],
-    reply: &mut [u8],
+    reply: &mut [u8; REPLY_BODY],
     out: &mut [u8],
     at: usize,
-) -> LegEnd
+) -> ControlFlow<usize, Turn>
     requires on_its_way { OnItsWay addresses.now (places_of addresses.now) tables.old before (head_of first block.now) body.now }
     requires at_bound { at ≤ most_characters * before }
-    requires max_reply_in_bounds { max_reply ≤ length reply.old }
     requires report_output_in_bounds { report_output ≤ length out.old }
     ensures { LegBy (telling_from before at out.old (net_of addresses.now tables.old) (head_of first block.now) body.now) addresses.now first.function block.now tables.new reply.new out.new result }
 {
@@ -182,14 +170,23 @@ fn write_leg(
     let mut place = at;
     loop {
         told += 1;
-        place = write_line(told, header, block, &mut *out, place);
+        place = write_line(told, header, block, out, place);
         if net_hop::MOST_TRANSMISSIONS < told as usize {
-            return LegEnd::Told(write_closing(told, JourneyEnd::AtZero, &mut *out, place));
+            return ControlFlow::Break(write_closing(told, JourneyEnd::AtZero, out, place));
         }
-        match net_hop::hop(header, block, body, &places, &mut *tables, &mut *reply) {
+        match net_hop::hop(header, block, body, &places, tables, reply) {
             HopAnswer::Relayed(h) => header = h,
-            HopAnswer::Answered(h, n) => return LegEnd::Answered(h, n, told, place),
-            HopAnswer::Ended(e) => return LegEnd::Told(write_closing(told, e, &mut *out, place)),
+            HopAnswer::Answered(header, length) => {
+                return ControlFlow::Continue(Turn {
+                    header,
+                    length,
+                    told,
+                    place,
+                });
+            }
+            HopAnswer::Ended(e) => {
+                return ControlFlow::Break(write_closing(told, e, out, place));
+            }
         }
     }
 }
@@ -208,38 +205,29 @@ fn write_journey(
     requires report_output_in_bounds { report_output ≤ length out.old }
     ensures { leaves (filled result) tables.new out.new ≡ tells_course (playing most_transmissions (net_of addresses.now tables.old) telegram.now) out.old }
 {
-    let n = telegram.len();
-    let start = header.block_start();
-    let behind = header.length();
+    let block = &telegram[header.block_start()..];
+    let body = &telegram[header.length()..];
     let mut reply = [0u8; REPLY_BODY];
-    let block = &telegram[start..n];
     match write_leg(
-        header,
-        block,
-        &telegram[behind..n],
-        0,
-        addresses,
-        &mut *tables,
-        &mut reply,
-        &mut *out,
-        0,
+        header, block, body, 0, addresses, tables, &mut reply, out, 0,
     ) {
-        LegEnd::Told(end) => end,
-        LegEnd::Answered(back, length, told, place) => {
+        ControlFlow::Break(end) => end,
+        ControlFlow::Continue(turn) => {
+            let back = &reply[..turn.length];
             let mut unused = [0u8; REPLY_BODY];
             match write_leg(
-                back,
+                turn.header,
                 block,
-                &reply[0..length],
-                told,
+                back,
+                turn.told,
                 addresses,
-                &mut *tables,
+                tables,
                 &mut unused,
-                &mut *out,
-                place,
+                out,
+                turn.place,
             ) {
-                LegEnd::Told(end) => end,
-                LegEnd::Answered(_, _, _, end) => end,
+                ControlFlow::Break(end) => end,
+                ControlFlow::Continue(_) => unreachable!(),
             }
         }
     }
@@ -260,11 +248,11 @@ pub fn report(
     if out.len() < REPORT_OUTPUT {
         return Err(Refusal::OutputShort);
     }
-    if !net_hop::is_set_up(addresses, &*tables) {
-        return Ok(write_outright(Refusal::Setup, &mut *out));
+    if !net_hop::is_set_up(addresses, tables) {
+        return Ok(write_outright(Refusal::Setup, out));
     }
     match mop_reader::read(Reader::Station, telegram) {
-        Err(refusal) => Ok(write_outright(refusal, &mut *out)),
-        Ok(header) => { Ok(write_journey(header, telegram, addresses, &mut *tables, &mut *out)) }
+        Err(refusal) => Ok(write_outright(refusal, out)),
+        Ok(header) => Ok(write_journey(header, telegram, addresses, tables, out)),
     }
 }

@@ -9,6 +9,6 @@ pub returns-then-n-lt10 : goal.returns-then-n-lt10
 unfolding hex_digit
 returns-then-n-lt10 c = simp (lt-ltb c.args.n 10 (omega arith))
 
-pub returns : goal.returns
+pub returns-else-n-lt10 : goal.returns-else-n-lt10
 unfolding hex_digit
-returns c = simp (le-ltb c.args.n 10 (omega arith))
+returns-else-n-lt10 c = simp (le-ltb c.args.n 10 (omega arith))

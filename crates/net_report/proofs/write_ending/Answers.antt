@@ -1,6 +1,7 @@
 -- `write_ending`: nothing, or a space and the refusal.
 -- Assumes nothing.
-use mathlib.Core.Path.{refl, ap, sym, ◌∙◌}
+use mathlib.Core.Logic.{◌⊎◌, inl, inr}
+use mathlib.Core.Path.{◌≡◌, refl, ap, sym, ◌∙◌}
 use Rattle.base.specs.Private.Writing.{writing}
 use Rattle.base.proofs.Writing.{nothing_written, behind_copy}
 use Rattle.refusal.specs.Numbers.{number_of}
@@ -9,23 +10,22 @@ use native.Mathlib.Omega.{arith}
 use lib.ListN.{length-set}
 use Rattle.net_hop.specs.Hop.{ending_of}
 use Rattle.net_hop.specs.declared.JourneyEnd.{JourneyEnd}
+use Rattle.net_hop.specs.declared.JourneyEnd.TheVariants.{AtZero, AtNobody}
 use Rattle.net_report.specs.Text.{space, refused_text, ending_text}
 use Rattle.net_report.proofs.write_ending.Goals as goal
 
 pub write_refused-requires : goal.write_refused-requires
 write_refused-requires c = simp length-set (omega arith)
 
-pub returns-in-AtZero : goal.returns-in-AtZero
+no_refusal : (e : JourneyEnd) → (e ≡ AtZero) ⊎ (e ≡ AtNobody) → ending_text (ending_of e) ≡ []
 unfolding ending_text
+no_refusal e (inl is) = rw is
+no_refusal e (inr is) = rw is
+
+pub returns-in-AtZero : goal.returns-in-AtZero
 returns-in-AtZero c =
     let a = c.args in
-    record { out_after = nothing_written a.at a.out.now ∙ ap (λ (e : JourneyEnd). writing a.at (ending_text (ending_of e)) a.out.now) (sym c.in-AtZero.is); upper_bound = omega arith }
-
-pub returns-in-AtNobody : goal.returns-in-AtNobody
-unfolding ending_text
-returns-in-AtNobody c =
-    let a = c.args in
-    record { out_after = nothing_written a.at a.out.now ∙ ap (λ (e : JourneyEnd). writing a.at (ending_text (ending_of e)) a.out.now) (sym c.in-AtNobody.is); upper_bound = omega arith }
+    record { out_after = rw (no_refusal a.end c.in-AtZero.is) (nothing_written a.at a.out.now); upper_bound = omega arith }
 
 pub shape_of-out : goal.shape_of-out
 shape_of-out c = c.write_refused.auto.out ∙ simp length-set

@@ -16,18 +16,15 @@ use Rattle.net_report.proofs.write_leg.Goals.{After-write_line-place, After-hop}
 
 -- a line leaves the output as long as it was
 out_long : (c : After-write_line-place) → length c.write_line-place.new.out ≡ length c.args.out.now
-out_long c = c.write_line-place.auto.out ∙ c.loop-told.invariant.4
+out_long c = c.write_line-place.auto.out ∙ c.loop-told.invariant.3
 
 -- a hop leaves the tables and the reply as long as they were
 tables_long : (c : After-hop) → length c.hop.new.tables ≡ length c.args.tables.now
 tables_long c = c.hop.auto.tables ∙ c.loop-told.invariant.2
 
-reply_long : (c : After-hop) → length c.hop.new.reply ≡ length c.args.reply.now
-reply_long c = c.hop.auto.reply ∙ c.loop-told.invariant.3
-
 -- a hop finds room for a reply
 enough : (c : After-hop) → max_reply ≤ length c.loop-told.reply
-enough c = omega (arith, c.loop-told.invariant.3, c.requires.max_reply_in_bounds)
+enough c = omega arith
 
 -- what the hop means
 means : (c : After-hop) {x : HopAnswer} → c.hop.result ≡ x →
@@ -44,16 +41,13 @@ means c e =
 pub loop-told-init : goal.loop-told-init
 loop-told-init c =
     let p = c.requires in
-    (record { way = p.on_its_way; room = p.at_bound; whole = refl }, refl, refl, refl, refl)
+    (record { way = p.on_its_way; room = p.at_bound; whole = refl }, refl, refl, refl)
 
 pub write_line-place-requires : goal.write_line-place-requires
 write_line-place-requires c = record { block_len_bound = few_entries c.loop-told.invariant.0.way; most_characters_in_bounds = search rules }
 
 pub shape_of-tables-then-told-gt-MOST_TRANSMISSIONS : goal.shape_of-tables-then-told-gt-MOST_TRANSMISSIONS
 shape_of-tables-then-told-gt-MOST_TRANSMISSIONS c = c.loop-told.invariant.2
-
-pub shape_of-reply-then-told-gt-MOST_TRANSMISSIONS : goal.shape_of-reply-then-told-gt-MOST_TRANSMISSIONS
-shape_of-reply-then-told-gt-MOST_TRANSMISSIONS c = c.loop-told.invariant.3
 
 pub shape_of-out-then-told-gt-MOST_TRANSMISSIONS : goal.shape_of-out-then-told-gt-MOST_TRANSMISSIONS
 shape_of-out-then-told-gt-MOST_TRANSMISSIONS c =
@@ -73,15 +67,11 @@ loop-told-preserved c =
       told_on c.loop-told.invariant.0 w.out_after w.upper_bound (omega arith) p.goes,
       p.function ∙ c.loop-told.invariant.1,
       tables_long at.After-hop,
-      reply_long at.After-hop,
       out_long at.After-write_line-place,
     )
 
 pub shape_of-tables-in-Answered : goal.shape_of-tables-in-Answered
 shape_of-tables-in-Answered c = tables_long (goal.at.shape_of-tables-in-Answered c).After-hop
-
-pub shape_of-reply-in-Answered : goal.shape_of-reply-in-Answered
-shape_of-reply-in-Answered c = reply_long (goal.at.shape_of-reply-in-Answered c).After-hop
 
 pub shape_of-out-in-Answered : goal.shape_of-out-in-Answered
 shape_of-out-in-Answered c = out_long (goal.at.shape_of-out-in-Answered c).After-write_line-place
@@ -96,7 +86,7 @@ returns-in-Answered c =
     let told = c.in-Answered.is in
     let p = means s told in
     let most = answered_count c.places_of-places.result (head_of v.header a.block.now) a.body.now v.tables v.reply c.hop.result a.block.now r.tables r.reply c.hop.ensures told in
-    (omega (arith, most, c.hop.auto.reply, enough s), sym v.invariant.1 ∙ p.request, p.back, told_on v.invariant.0 w.out_after w.upper_bound (omega arith) p.goes)
+    (omega (arith, most), sym v.invariant.1 ∙ p.request, p.back, told_on v.invariant.0 w.out_after w.upper_bound (omega arith) p.goes)
 
 pub write_closing-requires-in-Ended : goal.write_closing-requires-in-Ended
 write_closing-requires-in-Ended c =
@@ -105,9 +95,6 @@ write_closing-requires-in-Ended c =
 
 pub shape_of-tables-in-Ended : goal.shape_of-tables-in-Ended
 shape_of-tables-in-Ended c = tables_long (goal.at.shape_of-tables-in-Ended c).After-hop
-
-pub shape_of-reply-in-Ended : goal.shape_of-reply-in-Ended
-shape_of-reply-in-Ended c = reply_long (goal.at.shape_of-reply-in-Ended c).After-hop
 
 pub shape_of-out-in-Ended : goal.shape_of-out-in-Ended
 shape_of-out-in-Ended c = c.write_closing-in-Ended.auto.out ∙ out_long (goal.at.shape_of-out-in-Ended c).After-write_line-place

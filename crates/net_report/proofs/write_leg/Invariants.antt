@@ -12,7 +12,7 @@ use Rattle.net_report.proofs.write_leg.Given as goal
 abbrev pub invariant-loop-told : goal.invariant-loop-told
 invariant-loop-told l =
     ToldSoFar (telling_from l.before l.at l.initial.out (net_of l.addresses l.initial.tables) (head_of l.initial.header l.block) l.body) l.addresses l.tables l.told l.place l.out (head_of l.header l.block) l.body
-    × (l.header.function ≡ l.initial.header.function) × (length l.tables ≡ length l.initial.tables) × (length l.reply ≡ length l.initial.reply) × (length l.out ≡ length l.initial.out)
+    × (l.header.function ≡ l.initial.header.function) × (length l.tables ≡ length l.initial.tables) × (length l.out ≡ length l.initial.out)
 
 abbrev pub decreases-loop-told : goal.decreases-loop-told
 decreases-loop-told l = most_transmissions - l.told

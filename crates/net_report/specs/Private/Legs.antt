@@ -1,6 +1,8 @@
 -- A leg of a journey that is told: what is left of the text gives the whole. Only private contracts cite this.
 -- Assumes nothing.
 use Rattle.std.specs.Prelude.{ℕ, ◌+◌, ◌*◌, ◌-◌, ◌≤◌, ◌≡◌, List, ◌++◌, length, take}
+use Rattle.std.specs.ControlFlow.{MatchControlFlow}
+use Rattle.std.specs.declared.ops.ControlFlow.{ControlFlow}
 use Rattle.base.specs.Filling.{filled}
 use Rattle.base.specs.Private.Writing.{Writing, writing}
 use Rattle.mop_header.specs.Header.{Head, head_of, telegram_of}
@@ -14,8 +16,7 @@ use Rattle.net_hop.specs.Hop.{places_of}
 use Rattle.net_hop.specs.Private.Ways.{OnItsWay}
 use Rattle.net_report.specs.Text.{lines, closing}
 use Rattle.net_report.specs.Report.{Report, leaves, report_output}
-use Rattle.net_report.specs.declared.LegEnd.{LegEnd}
-use Rattle.net_report.specs.declared.LegEnd.TheVariants.{Told, Answered}
+use Rattle.net_report.specs.declared.Turn.{Turn}
 
 -- the most characters of a line
 abbrev pub most_characters : ℕ
@@ -45,7 +46,9 @@ pub record ToldSoFar (x : Report) (addresses tables : List ℕ) (told at : ℕ) 
 
 -- where a leg that began with a request or a reply came to: to the end of the report x; or to its destination, and the body of the
 -- reply is the first places of the buffer
-abbrev pub LegBy : Report → List ℕ → Function → List ℕ → List ℕ → List ℕ → List ℕ → LegEnd → Type 0
-LegBy x addresses began block after buffer out (Told end) = (leaves (filled end) after out ≡ x) × (end ≤ report_output)
-LegBy x addresses began block after buffer out (Answered g n told at) =
-    (n ≤ length buffer) × (began ≡ Request) × (g.function ≡ Reply) × ToldSoFar x addresses after told at out (head_of g block) (take n buffer)
+abbrev pub LegBy : Report → List ℕ → Function → List ℕ → List ℕ → List ℕ → List ℕ → ControlFlow ℕ Turn → Type 0
+LegBy x addresses began block after buffer out r =
+    MatchControlFlow r
+    (λ t. (t.length ≤ length buffer) × (began ≡ Request) × (t.header.function ≡ Reply)
+    × ToldSoFar x addresses after t.told t.place out (head_of t.header block) (take t.length buffer))
+    (λ end. (leaves (filled end) after out ≡ x) × (end ≤ report_output))
