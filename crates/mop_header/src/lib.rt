@@ -2,7 +2,7 @@
 // of the caller's that is lent beside it; a header is one only together with that slice.
 #![tactic(auto)]
 
-ghost use Rattle.std.specs.Prelude.{◌≡◌, ℕ, ◌+◌, ◌-◌, ◌≤◌, ◌<◌, List, length, get_or, drop};
+ghost use Rattle.std.specs.Prelude.{◌≡◌, ℕ, ◌+◌, ◌≤◌, List, length, get_or};
 ghost use Rattle.std.proofs.lemmas.List.Edits.{sets};
 ghost use Rattle.base.specs.Filling.{fitted};
 ghost use Rattle.refusal.specs.Writing.{filling_of};
@@ -18,11 +18,11 @@ pub const MARK: u8 = 0xEF;
 // The control byte of a new telegram.
 pub const NEW_CONTROL: u8 = 0xFF;
 
-// A request or a reply.
+// A request or a reply, by the function byte.
 #[derive(Clone, Copy)]
 pub enum Function {
-    Request,
-    Reply,
+    Request = 0x60,
+    Reply = 0xE0,
 }
 
 // Four entries, or the mark, a count and so many entries. The extended form carries its first mark byte.
@@ -49,12 +49,7 @@ fn mark_of(function: Function, first: u8) -> u8
 {
     match function {
         Function::Request => MARK,
-        Function::Reply => {
-            if first == 0 {
-                return 0;
-            }
-            MARK
-        }
+        Function::Reply => { if first == 0 { 0 } else { MARK } }
     }
 }
 
@@ -82,10 +77,7 @@ fn with_mark(form: Form, mark: u8) -> Form
 fn entry_at(slice: &[u8], place: usize) -> u8
     ensures { result ≡ get_or slice.now place 0 }
 {
-    if slice.len() <= place {
-        return 0;
-    }
-    slice[place]
+    slice.get(place).copied().unwrap_or(0)
 }
 
 impl Header {
@@ -107,25 +99,14 @@ impl Header {
         ensures value { result ≡ first_place self.count self.turn }
         ensures upper_bound { result ≤ self.count }
     {
-        if self.turn < self.count {
-            return self.turn;
-        }
-        0
+        if self.turn < self.count { self.turn } else { 0 }
     }
 
     // The header with another entry first.
     fn turned(self, turn: u8) -> Self
         ensures { (slice : List ℕ) → head_of result slice ≡ head self.function self.control self.form (rolled turn (entries self.count slice)) }
     {
-        let function = self.function;
-        let form = self.form;
-        Header {
-            function,
-            control: self.control,
-            form,
-            count: self.count,
-            turn,
-        }
+        Header { turn, ..self }
     }
 
     // The block rolled one place to the left.
@@ -134,9 +115,10 @@ impl Header {
     {
         let at = self.place();
         if self.count - at > 1 {
-            return self.turned(at + 1);
+            self.turned(at + 1)
+        } else {
+            self.turned(0)
         }
-        self.turned(0)
     }
 
     // The block rolled one place to the right.
@@ -145,12 +127,12 @@ impl Header {
     {
         let at = self.place();
         if 0 < at {
-            return self.turned(at - 1);
+            self.turned(at - 1)
+        } else if self.count == 0 {
+            self
+        } else {
+            self.turned(self.count - 1)
         }
-        if self.count == 0 {
-            return self;
-        }
-        self.turned(self.count - 1)
     }
 
     // How many entries the block has.
@@ -164,8 +146,7 @@ impl Header {
     pub fn block_start(self) -> usize
         ensures { result ≡ block_start self.form }
     {
-        let form = self.form;
-        match form {
+        match self.form {
             Form::Standard => 2,
             Form::Extended(_) => 7,
         }
@@ -183,15 +164,15 @@ impl Header {
         ensures { result ≡ get_or (head_of self block.now).block place 0 }
     {
         let count = self.count as usize;
-        if count <= place {
-            return 0;
-        }
         let at = self.place() as usize;
         let left = count - at;
-        if place < left {
-            return entry_at(block, at + place);
+        if count <= place {
+            0
+        } else if place < left {
+            entry_at(block, at + place)
+        } else {
+            entry_at(block, place - left)
         }
-        entry_at(block, place - left)
     }
 
     // The first entry of the block; 00 where there is none.
@@ -212,16 +193,10 @@ impl Header {
     pub fn remarked(self, block: &[u8]) -> Self
         ensures { head_of result block.now ≡ remarked (head_of self block.now) }
     {
-        let function = self.function;
-        let old = self.form;
-        let mark = mark_of(function, self.first(block));
-        let form = with_mark(old, mark);
+        let mark = mark_of(self.function, self.first(block));
         Header {
-            function,
-            control: self.control,
-            form,
-            count: self.count,
-            turn: self.turn,
+            form: with_mark(self.form, mark),
+            ..self
         }
     }
 
@@ -229,22 +204,17 @@ impl Header {
     pub fn is_marked(self, block: &[u8]) -> bool
         ensures { result ≡ mark_agrees (head_of self block.now) }
     {
-        let function = self.function;
-        let form = self.form;
-        has_mark(form, mark_of(function, self.first(block)))
+        has_mark(self.form, mark_of(self.function, self.first(block)))
     }
 
     // A new reply, in the form and with the block of the request.
     pub fn as_reply(self) -> Self
         ensures { head_of result ≡ beside as_reply (head_of self) }
     {
-        let form = self.form;
         Header {
             function: Function::Reply,
             control: NEW_CONTROL,
-            form,
-            count: self.count,
-            turn: self.turn,
+            ..self
         }
     }
 }
@@ -253,36 +223,17 @@ impl Header {
 pub fn function_byte(function: Function) -> u8
     ensures { result ≡ function_byte function }
 {
-    match function {
-        Function::Request => 0x60,
-        Function::Reply => 0xE0,
-    }
+    function as u8
 }
 
-// Puts the entries of a slice from one place to another.
-fn put_entries(block: &[u8], from: usize, end: usize, out: &mut [u8], at: usize)
-    requires from_le_end { from ≤ end }
-    requires from_in_bounds { at + (end - from) ≤ length out.old }
-    ensures { out.new ≡ sets out.old at (drop from (entries end block.now)) }
-{
-    let mut place = at;
-    let mut i = from;
-    while i < end {
-        out[place] = entry_at(block, i);
-        place += 1;
-        i += 1;
-    }
-}
-
-// Puts the block of a header: the entries from the first one on, then those before it.
+// Puts the block of a header.
 fn put_block(header: Header, block: &[u8], out: &mut [u8], at: usize)
     requires { at + header.count ≤ length out.old }
     ensures { out.new ≡ sets out.old at (head_of header block.now).block }
 {
-    let n = header.count as usize;
-    let first = header.place() as usize;
-    put_entries(block, first, n, &mut *out, at);
-    put_entries(block, 0, first, &mut *out, at + (n - first));
+    for i in 0..header.entry_count() {
+        out[at + i] = header.entry(block, i);
+    }
 }
 
 // Writes the bytes of a header.
@@ -290,21 +241,19 @@ fn write_header(header: Header, block: &[u8], out: &mut [u8])
     requires { header_length (head_of header block.now) ≤ length out.old }
     ensures { out.new ≡ sets out.old 0 (header_bytes (head_of header block.now)) }
 {
-    let form = header.form;
-    let function = header.function;
-    let byte = function_byte(function);
-    match form {
+    let byte = function_byte(header.function);
+    match header.form {
         Form::Standard => {
-            places::put(&[byte, header.control], &mut *out, 0);
-            put_block(header, block, &mut *out, 2)
+            places::put(&[byte, header.control], out, 0);
+            put_block(header, block, out, 2)
         }
         Form::Extended(mark) => {
             places::put(
                 &[byte, header.control, mark, MARK, MARK, MARK, header.count],
-                &mut *out,
+                out,
                 0,
             );
-            put_block(header, block, &mut *out, 7)
+            put_block(header, block, out, 7)
         }
     }
 }
@@ -315,13 +264,10 @@ pub fn write(header: Header, block: &[u8], body: &[u8], out: &mut [u8]) -> Resul
     ensures { filling_of result out.new ≡ fitted (telegram_of (head_of header block.now) body.now) out.old }
 {
     let n = header.length();
-    if out.len() < n {
+    if out.len() < n || out.len() - n < body.len() {
         return Err(Refusal::OutputShort);
     }
-    if out.len() - n < body.len() {
-        return Err(Refusal::OutputShort);
-    }
-    write_header(header, block, &mut *out);
-    places::put(body, &mut *out, n);
+    write_header(header, block, out);
+    places::put(body, out, n);
     Ok(n + body.len())
 }

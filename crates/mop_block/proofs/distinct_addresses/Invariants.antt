@@ -1,14 +1,10 @@
--- `distinct_addresses`: what is left from `at` on, with the seen, decides as the whole list does. What is left falls.
+-- `distinct_addresses`: what is left, with the seen, decides as the whole list does.
 -- Assumes nothing.
-use Prim.Native.Nat.{◌-◌}
 use mathlib.Core.Path.{◌≡◌}
-use lib.ListN.{length, drop}
+use lib.ListN.{drop}
 use Rattle.mop_block.specs.Block.{distinct_addresses}
 use Rattle.mop_block.proofs.Seen.{all_new}
 use Rattle.mop_block.proofs.distinct_addresses.Given as goal
 
-abbrev pub invariant-loop-at : goal.invariant-loop-at
-invariant-loop-at l = all_new l.seen (drop l.at l.list) ≡ distinct_addresses l.list
-
-abbrev pub decreases-loop-at : goal.decreases-loop-at
-decreases-loop-at l = length l.list - l.at
+abbrev pub invariant-loop-a : goal.invariant-loop-a
+invariant-loop-a l = all_new l.seen (drop l.a-index l.list) ≡ distinct_addresses l.list

@@ -1,53 +1,57 @@
--- `good_block`: what was seen, and what is left from i on, decide as the whole block does. What is left falls.
+-- `good_block`: what was seen, and what is left, decide as the whole block does.
 -- Assumes nothing.
-use mathlib.Core.Path.{sym, ◌∙◌}
+use mathlib.Core.Path.{◌≡◌, sym, ◌∙◌}
+use mathlib.Core.List.{[], ◌∷◌}
 use native.Mathlib.Omega.{arith}
+use Prim.Native.Nat.{◌+◌, ◌≤◌}
+use lib.ListN.{get_or}
+use Rattle.mop_block.specs.Block.{zero_ends}
 use Rattle.mop_block.proofs.Pass.{good_none, good_start, pass_zero, pass_refused, pass_station, pass_end}
 use Rattle.mop_block.proofs.good_block.Goals as goal
+use Rattle.mop_block.proofs.good_block.Goals.{then-zero_end, else-zero_end, then-x-eq0, else-x-eq0+else-not-note_address}
 
-pub returns-then-n-eq0 : goal.returns-then-n-eq0
-returns-then-n-eq0 c = sym (good_none c.args.b.now c.if-n-eq0.true)
+pub returns-in_default : goal.returns-in_default
+returns-in_default c = sym (good_none c.args.b.now (omega arith))
 
-pub loop-i-init : goal.loop-i-init
-loop-i-init c = (omega arith, omega arith, good_start _ (omega arith))
-
-pub loop-i-preserved-then-x-eq0 : goal.loop-i-preserved-then-x-eq0
-loop-i-preserved-then-x-eq0 c =
-    let t = c in
-    let v = t.loop-i in
-    let b = t.args.b.now in
-    let e = pass_zero b v.i v.zero v.ends v.last v.seen t.loop-i-test.true c.if-x-eq0.true in
-    (omega arith, omega arith, rw c.zero_end-ends.ensures.value (sym e ∙ v.invariant.2))
+pub loop-x-init : goal.loop-x-init
+loop-x-init c = (omega arith, good_start _ (omega arith))
 
 pub returns-then-not-note_address : goal.returns-then-not-note_address
 returns-then-not-note_address c =
-    let d = c in
-    let t = d in
-    let v = t.loop-i in
-    let b = t.args.b.now in
-    let no = sym c.note_address.ensures.value ∙ c.if-not-note_address.true in
-    sym (pass_refused b v.i v.zero v.ends v.last v.seen t.loop-i-test.true d.if-x-eq0.false no) ∙ v.invariant.2
+    let v = c.loop-x in
+    let none = sym c.note_address.ensures.value ∙ c.if-not-note_address.true in
+    sym (pass_refused c.args.b.now v.x-index v.zero v.ends v.last v.seen (omega arith) c.if-x-eq0.false none) ∙ v.invariant.1
 
-pub loop-i-preserved : goal.loop-i-preserved
-loop-i-preserved c =
-    let d = c in
-    let t = d in
-    let v = t.loop-i in
-    let b = t.args.b.now in
-    let yes = sym c.note_address.ensures.value ∙ c.if-not-note_address.false in
-    let e = pass_station b v.i v.zero v.ends v.last v.seen t.loop-i-test.true d.if-x-eq0.false yes in
-    (omega arith, omega arith, rw (c.note_address.ensures.seen_after, d.zero_end-ends.ensures.value) (sym e ∙ v.invariant.2))
-
-pub returns-then-not-zero : goal.returns-then-not-zero
-returns-then-not-zero c =
-    let v = c.loop-i in
+pub loop-x-preserved : goal.loop-x-preserved
+loop-x-preserved c =
+    let v = c.loop-x in
     let b = c.args.b.now in
-    let e = pass_end b v.i v.zero v.ends v.last v.seen c.loop-i-test.false in
-    sym (e ∙ rw c.if-not-zero.true) ∙ v.invariant.2
+    let ends : c.if-zero_end.ends ≡ v.ends + zero_ends (v.last ∷ get_or b v.x-index 0 ∷ []) =
+    elim c.if-zero_end.branch [
+      | then-zero_end w ↦ omega (arith, w.ends-is, rw w.if-zero_end.true at c.zero_end.ensures)
+      | else-zero_end w ↦ omega (arith, w.ends-is, rw w.if-zero_end.false at c.zero_end.ensures)
+    ] in
+    let most : c.if-zero_end.ends ≤ v.x-index + 1 =
+    elim c.if-zero_end.branch [ then-zero_end w ↦ omega (arith, w.ends-is) | else-zero_end w ↦ omega (arith, w.ends-is) ] in
+    elim c.if-x-eq0.branch [
+      | then-x-eq0 w ↦
+          (most, rw (w.zero-is, w.seen-is, ends) (sym (pass_zero b v.x-index v.zero v.ends v.last v.seen (omega arith) w.if-x-eq0.true) ∙ v.invariant.1))
+      | else-x-eq0+else-not-note_address w ↦
+          (let yes = sym w.note_address.ensures.value ∙ w.if-not-note_address.false in (
+            most,
+            rw (w.zero-is, w.seen-is, w.note_address.ensures.seen_after, ends)
+                (sym (pass_station b v.x-index v.zero v.ends v.last v.seen (omega arith) w.if-x-eq0.false yes) ∙ v.invariant.1),
+          ))
+    ]
 
-pub returns : goal.returns
-returns c =
-    let v = c.loop-i in
-    let b = c.args.b.now in
-    let e = pass_end b v.i v.zero v.ends v.last v.seen c.loop-i-test.false in
-    sym (e ∙ rw c.if-not-zero.false) ∙ v.invariant.2
+pub returns-then-zero : goal.returns-then-zero
+returns-then-zero c =
+    let v = c.loop-x in
+    let e = pass_end c.args.b.now v.x-index v.zero v.ends v.last v.seen (omega arith) in
+    sym (e ∙ rw c.if-zero.true) ∙ v.invariant.1
+
+pub returns-else-zero : goal.returns-else-zero
+returns-else-zero c =
+    let v = c.loop-x in
+    let e = pass_end c.args.b.now v.x-index v.zero v.ends v.last v.seen (omega arith) in
+    c.if-zero.false ∙ sym (e ∙ rw c.if-zero.false) ∙ v.invariant.1

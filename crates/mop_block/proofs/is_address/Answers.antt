@@ -5,10 +5,10 @@ use borrow.Author.Tests.{lt-leb, le-leb}
 use Rattle.mop_block.specs.Block.{is_address}
 use Rattle.mop_block.proofs.is_address.Goals as goal
 
-pub returns-then-a-lt1 : goal.returns-then-a-lt1
+pub returns-then-a-ge1 : goal.returns-then-a-ge1
 unfolding is_address
-returns-then-a-lt1 c = rw (lt-leb 1 c.args.a (omega arith))
+returns-then-a-ge1 c = rw (le-leb 1 c.args.a c.if-a-ge1.true)
 
-pub returns : goal.returns
+pub returns-else-a-ge1 : goal.returns-else-a-ge1
 unfolding is_address
-returns c = rw (le-leb 1 c.args.a (omega arith))
+returns-else-a-ge1 c = rw (lt-leb 1 c.args.a (omega arith))

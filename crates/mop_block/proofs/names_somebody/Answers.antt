@@ -1,22 +1,16 @@
--- `names_somebody`: the entries passed are no stations. What is left falls.
+-- `names_somebody`: some entry is no 00.
 -- Assumes nothing.
-use mathlib.Core.Path.{sym, ◌∙◌}
-use Rattle.mop_block.proofs.Scan.{somebody, zero_next, stations_end}
+use mathlib.Core.Path.{◌∙◌}
+use mathlib.Core.Bool.{not}
+use lib.Dec.{eqb}
+use borrow.Author.Rules.{rules}
+use borrow.Author.Tests.{tests}
+use Rattle.std.proofs.lemmas.Iterator.{YieldsList-from_slice}
+use Rattle.std.proofs.lemmas.Iterator.Search.{any_from_yields_List}
+use Rattle.mop_block.proofs.Scan.{any_station}
 use Rattle.mop_block.proofs.names_somebody.Goals as goal
-
-pub returns-then-a-ne0 : goal.returns-then-a-ne0
-returns-then-a-ne0 c =
-    let a = c in
-    let test = c.loop-i-test in
-    rw (← a.loop-i.invariant) (sym (somebody a.args.b.now a.loop-i.i test.true c.if-a-ne0.true))
-
-pub loop-i-preserved : goal.loop-i-preserved
-loop-i-preserved c =
-    let a = c in
-    let test = c.loop-i-test in
-    sym (zero_next a.args.b.now a.loop-i.i test.true c.if-a-ne0.false) ∙ a.loop-i.invariant
 
 pub returns : goal.returns
 returns c =
-    let a = c in
-    rw (← a.loop-i.invariant, stations_end a.args.b.now a.loop-i.i c.loop-i-test.false)
+    any_from_yields_List (λ a. not (eqb a 0)) _ _ _ c.any.ensures.ran (YieldsList-from_slice c.args.b.now cc) (λ x b q k. search (rules, tests))
+    ∙ any_station c.args.b.now

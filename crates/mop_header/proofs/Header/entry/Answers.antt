@@ -15,7 +15,7 @@ returns-then-place-left c =
     let a = c.args in
     c.entry_at.ensures ∙ entry_more a.self.count a.self.turn a.block.now c.place-at.ensures.value a.place (omega arith)
 
-pub returns : goal.returns
-returns c =
+pub returns-else-place-left : goal.returns-else-place-left
+returns-else-place-left c =
     let a = c.args in
-    c.entry_at-2.ensures ∙ entry_past a.self.count a.self.turn a.block.now c.place-at.ensures.value a.place (omega arith) (omega arith)
+    c.entry_at-else-place-left.ensures ∙ entry_past a.self.count a.self.turn a.block.now c.place-at.ensures.value a.place (omega arith) (omega arith)

@@ -9,6 +9,6 @@ pub returns-then-self : goal.returns-then-self
 unfolding first_place
 returns-then-self c = record { value = rw (lt-ltb _ _ c.if-self.true); upper_bound = omega arith }
 
-pub returns : goal.returns
+pub returns-else-self : goal.returns-else-self
 unfolding first_place
-returns c = record { value = rw (le-ltb _ _ c.if-self.false); upper_bound = omega arith }
+returns-else-self c = record { value = rw (le-ltb _ _ c.if-self.false); upper_bound = omega arith }

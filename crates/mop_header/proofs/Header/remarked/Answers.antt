@@ -12,4 +12,4 @@ returns c =
     let a = c.args in
     let h = a.self in
     let mark = c.mark_of-mark.ensures ∙ ap (mark_byte h.function) c.first.ensures in
-    ap (λ (m : Form). head h.function h.control m (rolled h.turn (entries h.count a.block.now))) (c.with_mark-form.ensures ∙ ap (with_mark h.form) mark)
+    ap (λ (m : Form). head h.function h.control m (rolled h.turn (entries h.count a.block.now))) (c.with_mark.ensures ∙ ap (with_mark h.form) mark)

@@ -12,8 +12,8 @@ returns-then-self-at-gt1 c = for_each (λ slice.
     let h = c.args.self in
     c.turned.ensures slice ∙ ap (head h.function h.control h.form) (left_more h.count h.turn slice c.place-at.ensures.value (omega arith)))
 
-pub returns : goal.returns
+pub returns-else-self-at-gt1 : goal.returns-else-self-at-gt1
 unfolding rolled_left
-returns c = for_each (λ slice.
+returns-else-self-at-gt1 c = for_each (λ slice.
     let h = c.args.self in
-    c.turned-2.ensures slice ∙ ap (head h.function h.control h.form) (left_last h.count h.turn slice c.place-at.ensures.value (omega arith)))
+    c.turned-else-self-at-gt1.ensures slice ∙ ap (head h.function h.control h.form) (left_last h.count h.turn slice c.place-at.ensures.value (omega arith)))

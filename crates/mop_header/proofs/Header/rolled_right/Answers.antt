@@ -18,8 +18,8 @@ returns-then-self-eq0 c = for_each (λ slice.
     let h = c.args.self in
     ap (head h.function h.control h.form) (none_right h.count h.turn slice c.if-self-eq0.true))
 
-pub returns : goal.returns
+pub returns-else-self-eq0 : goal.returns-else-self-eq0
 unfolding rolled_right
-returns c = for_each (λ slice.
+returns-else-self-eq0 c = for_each (λ slice.
     let h = c.args.self in
-    c.turned-2.ensures slice ∙ ap (head h.function h.control h.form) (right_first h.count h.turn slice c.place-at.ensures.value (omega arith)))
+    c.turned-else-self-eq0.ensures slice ∙ ap (head h.function h.control h.form) (right_first h.count h.turn slice c.place-at.ensures.value (omega arith)))
