@@ -65,14 +65,25 @@ impl fmt::Display for Verdict {
 // Reads a telegram as a reply, and shows what it says, or zeros where it is not accepted, with the start of its values.
 fn read(rt: &impl Print, telegram: &[u8]) -> io::Result<()> {
     let answer = mop_centre::read_reply(telegram);
-    let (route, start, count) = match answer {
-        Ok(Some(reply)) => (reply.route, reply.start, reply.count),
-        _ => ([0u8; MAX_ROUTE], 0, 0),
+    let zeros = [0u8; MAX_ROUTE];
+    let nothing = Reply {
+        route: zeros,
+        start: 0,
+        count: 0,
+        values_at: 0,
+    };
+    let reply = match answer {
+        Ok(Some(reply)) => reply,
+        _ => nothing,
     };
     let values = mop_centre::read_reply_values(telegram);
-    let shown = Start(telegram, 16);
-    print!(rt; "{shown}{}", Verdict(answer))?;
-    print!(rt; "; route{}; run {start} {count}", Bytes(&route))?;
+    print!(rt; "{}{}", Start(telegram, 16), Verdict(answer))?;
+    print!(rt;
+        "; route{}; run {} {}",
+        Bytes(&reply.route),
+        reply.start,
+        reply.count
+    )?;
     println!(rt; "; values{}", Bytes(first(values, 16)))
 }
 
