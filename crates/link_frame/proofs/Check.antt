@@ -3,7 +3,7 @@
 use mathlib.Core.Path.{◌≡◌, refl, sym, ap, ◌∙◌}
 use mathlib.Core.Bool.{Bool, true, false}
 use mathlib.Core.List.{List, [], ◌∷◌, ◌++◌}
-use Prim.Native.Nat.{ℕ, zero, suc, ◌+◌, ◌-◌, ◌%◌, ◌≤◌}
+use Prim.Native.Nat.{ℕ, zero, suc, ◌-◌, ◌%◌, ◌≤◌}
 use native.Mathlib.Nat.{add-mod_right}
 use native.Mathlib.Numerals.{add-two}
 use native.Mathlib.Omega.{arith}
@@ -11,9 +11,11 @@ use borrow.Author.Tests.{eqb-true}
 use lib.Bits.{bit_xor}
 use lib.Dec.{eqb}
 use lib.ListN.{length, replicate}
+use Rattle.std.specs.List.{fold}
 use Rattle.base.specs.Choice.{pick}
 use Rattle.link_frame.specs.ControlBytes.{ETX, DLE}
 use Rattle.link_frame.specs.Frame.{sent, doubled, xor_over, checked, check_byte}
+use Rattle.link_frame.proofs.Doubling.{dles, length_doubled}
 use Rattle.link_frame.proofs.Xor.{xor_swap, xor_twice}
 
 xor_append : (c : ℕ) (xs ys : List ℕ) → xor_over c (xs ++ ys) ≡ xor_over (xor_over c xs) ys
@@ -42,17 +44,13 @@ xor_run b (suc (suc n)) c =
     ∙ xor_run b n c
     ∙ ap (λ (k : ℕ). xor_over c (replicate k b)) (sym (add-mod_right n 2) ∙ ap (λ (k : ℕ). k % 2) (add-two n))
 
--- how many DLEs some data has
-dles : List ℕ → ℕ
-dles [] = 0
-dles (b ∷ bs) = pick (eqb b DLE) (suc (dles bs)) (dles bs)
+-- the exclusive or as the code takes it
+pub xor_folded : (c : ℕ) (l : List ℕ) → fold bit_xor c l ≡ xor_over c l
+unfolding xor_over
+xor_folded c [] = refl
+xor_folded c (x ∷ l) = xor_folded (bit_xor c x) l
 
 module _ (b : ℕ) (bs : List ℕ) where
-  length_first : (t : Bool) → length (doubled bs) ≡ length bs + dles bs →
-      length (pick t (b ∷ b ∷ []) (b ∷ []) ++ doubled bs) ≡ suc (length bs) + pick t (suc (dles bs)) (dles bs)
-  length_first true e = omega arith
-  length_first false e = omega arith
-
   xor_first : (t : Bool) → eqb b DLE ≡ t →
       ((c : ℕ) → xor_over c (doubled bs) ≡ xor_over (xor_over c bs) (replicate (dles bs) DLE)) → (c : ℕ) →
       xor_over c (pick t (b ∷ b ∷ []) (b ∷ []) ++ doubled bs)
@@ -63,12 +61,6 @@ module _ (b : ℕ) (bs : List ℕ) where
       ∙ ap (λ (k : ℕ). xor_over k (replicate (dles bs) DLE))
       (xor_more (bit_xor c b) b bs ∙ ap (bit_xor (xor_over (bit_xor c b) bs)) (eqb-true b DLE e))
   xor_first false e ih c = ih (bit_xor c b)
-
--- each DLE makes the data as it is sent one byte longer
-length_doubled : (d : List ℕ) → length (doubled d) ≡ length d + dles d
-unfolding doubled sent dles
-length_doubled [] = refl
-length_doubled (b ∷ bs) = length_first b bs (eqb b DLE) (length_doubled bs)
 
 pub not_shorter : (d : List ℕ) → length d ≤ length (doubled d)
 not_shorter d = omega (arith, length_doubled d)

@@ -1,22 +1,24 @@
--- The doubled data from place i on: a byte and what is left behind it, or a part.
+-- The doubled data: from a place on, as a byte or a part and what is left behind it; and by how many DLEs the data has.
 -- Assumes nothing.
 use mathlib.Core.Path.{◌≡◌, refl, ap, sym, ◌∙◌}
-use mathlib.Core.Bool.{Bool, true, false, ◌&&◌, not, and-true, and-false, false≢true}
+use mathlib.Core.Bool.{Bool, true, false, cond}
 use mathlib.Core.List.{List, [], ◌∷◌, ◌++◌, append_assoc}
-use Prim.Native.Nat.{ℕ, suc, ◌+◌, ◌-◌, ◌*◌, ◌≤◌, ◌<◌}
-use native.Mathlib.Nat.{add-suc, suc-add}
+use Prim.Native.Nat.{ℕ, zero, suc, ◌+◌, ◌*◌, ◌≤◌, ◌<◌}
+use native.Mathlib.Nat.{add-suc, suc-add, zero-mul}
 use native.Mathlib.Numerals.{add-one}
 use native.Mathlib.Omega.{arith}
-use borrow.Author.Tests.{eq-eqb, ne_eqb, eqb-true, eqb-false}
+use borrow.Author.Tests.{eq-eqb, ne_eqb, eqb-true}
 use lib.Dec.{eqb}
-use lib.ListN.{length, take, drop, get_or, replicate, length-append, take-append-drop, drop_of_length-le}
+use lib.ListN.{length, take, drop, get_or, replicate, take-append-drop, drop_of_length-le}
 use lib.Seq.{drop-cons, drop-drop}
+use Rattle.std.proofs.lemmas.List.Recursion.{is_count_by}
+use Rattle.std.specs.List.{count_by}
+use Rattle.std.specs.Simd.{first_chunks}
 use Rattle.base.specs.Choice.{pick}
-use Rattle.base.specs.Private.Tests.{every}
 use Rattle.base.proofs.Writing.{Splits}
 use Rattle.link_frame.specs.ControlBytes.{DLE}
 use Rattle.link_frame.specs.Frame.{sent, doubled}
-use Rattle.link_frame.specs.Private.Tests.{is_dle, is_other}
+use Rattle.link_frame.specs.Private.Tests.{is_dle}
 
 -- a DLE is sent twice, any other byte once
 module _ (b : ℕ) where
@@ -55,67 +57,85 @@ module _ (d : List ℕ) (i : ℕ) (h : i < length d) where
   pub next_other : (get_or d i 0 ≡ DLE → ⊥) → Once d i
   next_other e = next (sent_other (get_or d i 0) e)
 
-  pub next_byte : Splits (drop i d) (get_or d i 0 ∷ []) (drop (i + 1) d)
-  next_byte = record { is = rw (drop-cons d i 0, add-one) }
+-- a part of n bytes, behind i others
+part_at : (n k i : ℕ) (d : List ℕ) → i < k → get_or (first_chunks n k d) i [] ≡ take n (drop (i * n) d)
+part_at n zero i d h = absurd (omega arith)
+part_at n (suc k) zero d h = rw zero-mul
+part_at n (suc k) (suc i) d h =
+    part_at n k i (drop n d) (omega arith)
+    ∙ rw (drop-drop (i * n) n d)
+    (ap (λ (m : ℕ). take n (drop m d)) (omega arith))
 
--- the part from place i up to place e
-pub next_part : (d : List ℕ) (i e : ℕ) → i ≤ e → Splits (doubled (drop i d)) (doubled (take (e - i) (drop i d))) (doubled (drop e d))
-next_part d i e h =
-    let k : i + (e - i) ≡ e = omega arith in
+pub next_part : (n k i : ℕ) (d : List ℕ) → i < k →
+    Splits (doubled (drop (i * n) d)) (doubled (get_or (first_chunks n k d) i [])) (doubled (drop ((i + 1) * n) d))
+next_part n k i d h =
+    let next : i * n + n ≡ (i + 1) * n = omega arith in
     record {
       is =
-          ap doubled (sym (take-append-drop (e - i) (drop i d)))
-          ∙ doubled_append (take (e - i) (drop i d)) _
-          ∙ rw (drop-drop (e - i) i d, k);
+          ap doubled (sym (take-append-drop n (drop (i * n) d)))
+          ∙ doubled_append (take n (drop (i * n) d)) _
+          ∙ rw (part_at n k i d h, drop-drop n (i * n) d, next);
     }
 
--- data with no DLE in it is sent as it is
-plain_first : (b : ℕ) (bs : List ℕ) (t : Bool) → eqb b DLE ≡ t → (every is_other bs ≡ true → doubled bs ≡ bs) →
-    not t && every is_other bs ≡ true → sent b ++ doubled bs ≡ b ∷ bs
-plain_first b bs true e ih p = absurd (false≢true p)
-plain_first b bs false e ih p = rw (sent_other b (eqb-false b DLE e), ih p)
+-- how many DLEs some data has
+unfoldable pub dles : List ℕ → ℕ
+dles [] = 0
+dles (b ∷ bs) = pick (eqb b DLE) (suc (dles bs)) (dles bs)
 
-pub plain : (d : List ℕ) → every is_other d ≡ true → doubled d ≡ d
-unfolding doubled
+module _ (b : ℕ) (bs : List ℕ) where
+  count_first : (t : Bool) → pick t (suc (dles bs)) (dles bs) ≡ cond t (1 + dles bs) (dles bs)
+  count_first true = omega arith
+  count_first false = refl
+
+  length_first : (t : Bool) → length (doubled bs) ≡ length bs + dles bs →
+      length (pick t (b ∷ b ∷ []) (b ∷ []) ++ doubled bs) ≡ suc (length bs) + pick t (suc (dles bs)) (dles bs)
+  length_first true e = omega arith
+  length_first false e = omega arith
+
+  few_first : (t : Bool) → dles bs ≤ length bs → pick t (suc (dles bs)) (dles bs) ≤ suc (length bs)
+  few_first true h = omega arith
+  few_first false h = omega arith
+
+  -- data with no DLE in it is sent as it is
+  plain_first : (t : Bool) → (dles bs ≡ 0 → doubled bs ≡ bs) → pick t (suc (dles bs)) (dles bs) ≡ 0 →
+      pick t (b ∷ b ∷ []) (b ∷ []) ++ doubled bs ≡ b ∷ bs
+  plain_first true ih p = absurd (omega arith)
+  plain_first false ih p = rw (ih p)
+
+  -- data that is nothing but DLE is sent as a run of twice its length
+  run_first : (t : Bool) → eqb b DLE ≡ t → dles bs ≤ length bs →
+      (dles bs ≡ length bs → doubled bs ≡ replicate (length bs + length bs) DLE) →
+      pick t (suc (dles bs)) (dles bs) ≡ suc (length bs) →
+      pick t (b ∷ b ∷ []) (b ∷ []) ++ doubled bs ≡ replicate (suc (length bs) + suc (length bs)) DLE
+  run_first false e few ih p = absurd (omega arith)
+  run_first true e few ih p =
+      rw (ih (omega arith), eqb-true b DLE e, suc-add (length bs) (suc (length bs)), add-suc (length bs) (length bs))
+
+pub dles_counted : (d : List ℕ) → dles d ≡ count_by is_dle d
+unfolding dles
+dles_counted d = is_count_by dles is_dle refl (λ b bs. count_first b bs (eqb b DLE)) d
+
+-- each DLE makes the data as it is sent one byte longer
+pub length_doubled : (d : List ℕ) → length (doubled d) ≡ length d + dles d
+unfolding doubled sent dles
+length_doubled [] = refl
+length_doubled (b ∷ bs) = length_first b bs (eqb b DLE) (length_doubled bs)
+
+few_dles : (d : List ℕ) → dles d ≤ length d
+unfolding dles
+few_dles [] = omega arith
+few_dles (b ∷ bs) = few_first b bs (eqb b DLE) (few_dles bs)
+
+pub plain : (d : List ℕ) → dles d ≡ 0 → doubled d ≡ d
+unfolding doubled sent dles
 plain [] = λ p. refl
-plain (b ∷ bs) = plain_first b bs (eqb b DLE) refl (plain bs)
+plain (b ∷ bs) = plain_first b bs (eqb b DLE) (plain bs)
 
--- data that is nothing but DLE is sent as a run of twice its length
-run_first : (b : ℕ) (bs : List ℕ) (t : Bool) → eqb b DLE ≡ t →
-    (every is_dle bs ≡ true → doubled bs ≡ replicate (length bs + length bs) DLE) →
-    t && every is_dle bs ≡ true → sent b ++ doubled bs ≡ replicate (suc (length bs) + suc (length bs)) DLE
-run_first b bs false e ih p = absurd (false≢true p)
-run_first b bs true e ih p =
-    rw (sent_dle b (eqb-true b DLE e), ih p, eqb-true b DLE e, suc-add (length bs) (suc (length bs)), add-suc (length bs) (length bs))
-
-pub run : (d : List ℕ) → every is_dle d ≡ true → doubled d ≡ replicate (length d + length d) DLE
-unfolding doubled
+pub run : (d : List ℕ) → dles d ≡ length d → doubled d ≡ replicate (length d + length d) DLE
+unfolding doubled sent dles
 run [] = λ p. refl
-run (b ∷ bs) = run_first b bs (eqb b DLE) refl (run bs)
-
--- whether a byte before place i has failed a test is known: what is left decides
-module _ (test : ℕ → Bool) (d : List ℕ) (i : ℕ) (failed : Bool) (known : not failed && every test (drop i d) ≡ every test d) where
-  pub every_next : i < length d → test (get_or d i 0) ≡ true → not failed && every test (drop (i + 1) d) ≡ every test d
-  every_next h e =
-      let first : every test (drop i d) ≡ every test (drop (i + 1) d) = rw (drop-cons d i 0, add-one) (rw e) in
-      rw (← first) known
-
-  pub every_fails : i < length d → test (get_or d i 0) ≡ false → false ≡ every test d
-  every_fails h e =
-      let first : every test (drop i d) ≡ false = rw (drop-cons d i 0) (rw e) in
-      sym (and-false (not failed)) ∙ rw (← first) known
-
-  pub every_end : length d ≤ i → not failed ≡ every test d
-  every_end h =
-      let none : every test (drop i d) ≡ true = rw (drop_of_length-le d h) in
-      sym (and-true (not failed)) ∙ rw (← none) known
+run (b ∷ bs) = run_first b bs (eqb b DLE) refl (few_dles bs) (run bs)
 
 -- the doubled data is at most twice as long
-sent_bound : (b : ℕ) (t : Bool) → length (pick t (b ∷ b ∷ []) (b ∷ [])) ≤ 2
-sent_bound b true = omega arith
-sent_bound b false = omega arith
-
 pub doubled_bound : (d : List ℕ) → length (doubled d) ≤ 2 * length d
-unfolding doubled sent
-doubled_bound [] = omega arith
-doubled_bound (b ∷ bs) = simp length-append (omega (arith, sent_bound b (eqb b DLE), doubled_bound bs))
+doubled_bound d = omega (arith, length_doubled d, few_dles d)

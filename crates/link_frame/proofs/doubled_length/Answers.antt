@@ -1,23 +1,15 @@
--- `doubled_length`: what is counted, and what is left from i on, make the whole length. What is left falls.
+-- `doubled_length`: each DLE makes the data as it is sent one byte longer.
 -- Assumes nothing.
 use mathlib.Core.Path.{ap}
 use native.Mathlib.Omega.{arith}
-use lib.ListN.{length}
-use Rattle.link_frame.proofs.Doubling.{none_left, next_dle, next_other}
+use lib.Seq.{take_all}
+use Rattle.std.specs.List.{count_by}
+use Rattle.link_frame.specs.Private.Tests.{is_dle}
+use Rattle.link_frame.proofs.Doubling.{dles_counted, length_doubled}
 use Rattle.link_frame.proofs.doubled_length.Goals as goal
-
-pub loop-i-preserved-then-b-eq-DLE : goal.loop-i-preserved-then-b-eq-DLE
-loop-i-preserved-then-b-eq-DLE c =
-    let a = c in
-    let e = next_dle a.args.src.now a.loop-i.i c.loop-i-test.true c.if-b-eq-DLE.true in
-    (omega arith, omega arith, omega (arith, ap length e.is))
-
-pub loop-i-preserved : goal.loop-i-preserved
-loop-i-preserved c =
-    let a = c in
-    let e = next_other a.args.src.now a.loop-i.i c.loop-i-test.true c.if-b-eq-DLE.false in
-    (omega arith, omega arith, omega (arith, ap length e.is))
 
 pub returns : goal.returns
 returns c =
-    omega (arith, ap length (none_left c.args.src.now c.loop-i.i c.loop-i-test.false))
+    let src = c.args.src.now in
+    let all = ap (count_by is_dle) (take_all c.loop-b.b-index src c.loop-b-test.false) in
+    omega (arith, length_doubled src, dles_counted src, all)

@@ -1,49 +1,31 @@
--- `write_doubled`: what is done, and what is left from i on, make the whole. What is left falls.
+-- `write_doubled`: what is done, and what is left behind the parts so far, make the whole.
 -- Assumes nothing.
-use Prim.Native.Nat.{ℕ, ◌+◌}
-use mathlib.Core.Path.{refl, ◌∙◌}
+use Prim.Native.Nat.{◌/◌}
+use mathlib.Core.Path.{◌≡◌, ◌∙◌}
 use native.Mathlib.Omega.{arith}
-use lib.ListN.{length-take, length-drop}
-use Rattle.base.proofs.Places.{take_rest}
+use lib.ListN.{length}
 use Rattle.base.proofs.Writing.{writing_step, writing_call, same_place}
 use Rattle.link_frame.proofs.Doubling.{next_part}
 use Rattle.link_frame.proofs.write_doubled.Goals as goal
 
--- the length of a part in the code
-abbrev PART : ℕ
-PART = 16
-
-pub loop-i-init : goal.loop-i-init
-loop-i-init c = (refl, omega arith, refl, refl)
-
 pub write_part-at-requires : goal.write_part-at-requires
 write_part-at-requires c =
-    let v = c.loop-i in
-    let e = next_part c.args.src.now v.i (v.i + PART) (omega arith) in
-    (simp (length-take, length-drop) (omega arith), omega (arith, same_place (writing_step e v.at v.out v.invariant.3)))
+    let v = c.loop-part in
+    let src = c.args.src.now in
+    let e = next_part 16 (length src / 16) v.part-index src (omega arith) in
+    rw c.as_chunks.ensures.front (omega (arith, same_place (writing_step e v.at v.out v.invariant)))
 
-pub loop-i-preserved : goal.loop-i-preserved
-loop-i-preserved c =
-    let v = c.loop-i in
+pub loop-part-preserved : goal.loop-part-preserved
+loop-part-preserved c =
+    let v = c.loop-part in
     let src = c.args.src.now in
     let p = c.write_part-at in
-    let e = next_part src v.i (v.i + PART) (omega arith) in (
-      refl,
-      omega arith,
-      p.auto.out ∙ v.invariant.2,
-      writing_call e v.at v.out p.ensures v.invariant.3,
-    )
-
-pub write_doubling-requires : goal.write_doubling-requires
-write_doubling-requires c =
-    let v = c.loop-i in
-    rw (take_rest v.i c.args.src.now) (omega (arith, same_place v.invariant.3))
-
-pub shape_of-out : goal.shape_of-out
-shape_of-out c = c.write_doubling.auto.out ∙ c.loop-i.invariant.2
+    let e = next_part 16 (length src / 16) v.part-index src (omega arith) in
+    writing_call e v.at v.out (p.ensures ∙ rw c.as_chunks.ensures.front) v.invariant
 
 pub returns : goal.returns
 returns c =
-    let v = c.loop-i in
+    let v = c.loop-part in
     let src = c.args.src.now in
-    c.write_doubling.ensures ∙ rw (take_rest v.i src) v.invariant.3
+    let all : v.part-index ≡ length src / 16 = omega arith in
+    c.write_doubling.ensures ∙ rw (c.as_chunks.ensures.back, ← all) v.invariant
