@@ -1,12 +1,11 @@
 // The answers of a barrier, written and read.
 #![tactic(auto)]
 
-ghost use Rattle.std.specs.Prelude.{◌≡◌, [], ◌∷◌, get_or, drop};
+ghost use Rattle.std.specs.Prelude.{◌≡◌};
 ghost use Rattle.base.specs.Filling.{fitted};
-ghost use Rattle.signed.specs.Signed.{top8, top32, signed_of, of_four};
+ghost use Rattle.signed.specs.Signed.{top8, signed_of};
 ghost use Rattle.gate_refusal.specs.Writing.{filling_of};
-ghost use Rattle.gate_answers.specs.Answers.{is_position, answer_bytes, answer_writing, reads, reading_of, sized, position_at, answer_reading};
-ghost use Rattle.gate_answers.specs.declared.BarrierAnswer.TheVariants.{Count, Position};
+ghost use Rattle.gate_answers.specs.Answers.{is_position, answer_writing, reading_of, position_at, answer_reading};
 
 use gate_refusal::GateRefusal;
 use signed::TwosComplement;
@@ -40,127 +39,69 @@ pub enum BarrierAnswer {
 pub fn is_position(z: i32) -> bool
     ensures { result ≡ is_position z }
 {
-    if z < -1 {
-        return false;
-    }
-    z <= 100
+    -1 <= z && z <= 100
 }
 
-// Writes an answer of one byte.
-fn write_kind(kind: u8, out: &mut [u8]) -> Result<usize, GateRefusal>
-    ensures { filling_of result out.new ≡ fitted (kind ∷ []) out.old }
+// Writes the bytes of an answer.
+fn write_bytes(bytes: &[u8], out: &mut [u8]) -> Result<usize, GateRefusal>
+    ensures { filling_of result out.new ≡ fitted bytes.now out.old }
 {
-    if out.len() < 1 {
+    if out.len() < bytes.len() {
         return Err(GateRefusal::OutputShort);
     }
-    out[0] = kind;
-    Ok(1)
-}
-
-// Writes the answer with the vehicle count.
-fn write_count(z: i32, out: &mut [u8]) -> Result<usize, GateRefusal>
-    ensures { filling_of result out.new ≡ fitted (answer_bytes (Count z)) out.old }
-{
-    if out.len() < 5 {
-        return Err(GateRefusal::OutputShort);
-    }
-    let four = signed::four_bytes(z.to_bits());
-    out[0] = COUNT;
-    places::put(&four, &mut *out, 1);
-    Ok(5)
-}
-
-// Writes the answer with a position.
-fn write_position(z: i8, out: &mut [u8]) -> Result<usize, GateRefusal>
-    ensures { filling_of result out.new ≡ answer_writing (Position z) out.old }
-{
-    if !is_position(z as i32) {
-        return Err(GateRefusal::Position);
-    }
-    if out.len() < 2 {
-        return Err(GateRefusal::OutputShort);
-    }
-    out[0] = POSITION;
-    out[1] = z.to_bits();
-    Ok(2)
+    places::put(bytes, out, 0);
+    Ok(bytes.len())
 }
 
 // The bytes of an answer in the first places of out, and their number; the other places keep their values.
 // Refused, and out as it was: 10 for a position that is not -1 to 100, then 11 for an output that is too short.
+#[tactic(auto, unfolding(crate::specs::Answers::answer_writing, crate::specs::Answers::is_answer, crate::specs::Answers::answer_bytes))]
 pub fn write_answer(answer: BarrierAnswer, out: &mut [u8]) -> Result<usize, GateRefusal>
     ensures { filling_of result out.new ≡ answer_writing answer out.old }
 {
     match answer {
-        BarrierAnswer::Ack => write_kind(ACK, &mut *out),
-        BarrierAnswer::Nak => write_kind(NAK, &mut *out),
-        BarrierAnswer::Busy => write_kind(BUSY, &mut *out),
-        BarrierAnswer::Syn => write_kind(SYN, &mut *out),
-        BarrierAnswer::Count(z) => write_count(z, &mut *out),
-        BarrierAnswer::Position(z) => write_position(z, &mut *out),
+        BarrierAnswer::Ack => write_bytes(&[ACK], out),
+        BarrierAnswer::Nak => write_bytes(&[NAK], out),
+        BarrierAnswer::Busy => write_bytes(&[BUSY], out),
+        BarrierAnswer::Syn => write_bytes(&[SYN], out),
+        BarrierAnswer::Count(z) => {
+            let [first, second, third, fourth] = signed::four_bytes(z.to_bits());
+            write_bytes(&[COUNT, first, second, third, fourth], out)
+        }
+        BarrierAnswer::Position(z) if !is_position(z as i32) => Err(GateRefusal::Position),
+        BarrierAnswer::Position(z) => write_bytes(&[POSITION, z.to_bits()], out),
     }
 }
 
-// An answer that is one byte long.
-fn read_alone(answer: BarrierAnswer, src: &[u8]) -> Result<BarrierAnswer, GateRefusal>
-    ensures { reading_of result ≡ sized 1 src.now (reads answer) }
+// The position that a byte stands for.
+fn read_position(bits: u8) -> Result<BarrierAnswer, GateRefusal>
+    ensures { reading_of result ≡ position_at (signed_of top8 bits) }
 {
-    if src.len() != 1 {
-        return Err(GateRefusal::Length);
+    let z = i8::from_bits(bits);
+    if is_position(z as i32) {
+        Ok(BarrierAnswer::Position(z))
+    } else {
+        Err(GateRefusal::Position)
     }
-    Ok(answer)
-}
-
-// The answer with the vehicle count.
-fn read_count(src: &[u8]) -> Result<BarrierAnswer, GateRefusal>
-    ensures { reading_of result ≡ sized 5 src.now (reads (Count (signed_of top32 (of_four (drop 1 src.now))))) }
-{
-    if src.len() != 5 {
-        return Err(GateRefusal::Length);
-    }
-    let n = signed::of_four([src[1], src[2], src[3], src[4]]);
-    Ok(BarrierAnswer::Count(i32::from_bits(n)))
-}
-
-// The answer with a position.
-fn read_position(src: &[u8]) -> Result<BarrierAnswer, GateRefusal>
-    ensures { reading_of result ≡ sized 2 src.now (position_at (signed_of top8 (get_or src.now 1 0))) }
-{
-    if src.len() != 2 {
-        return Err(GateRefusal::Length);
-    }
-    let z = i8::from_bits(src[1]);
-    if !is_position(z as i32) {
-        return Err(GateRefusal::Position);
-    }
-    Ok(BarrierAnswer::Position(z))
 }
 
 // The answer that bytes are. Refused: 7 for no byte at all; then 3 for an unknown kind; then 7 for a known kind of another
 // length; then 10 for a position that is not -1 to 100.
+#[tactic(auto, unfolding(crate::specs::Answers::answer_reading, crate::specs::Answers::kind_reading))]
 pub fn read_answer(src: &[u8]) -> Result<BarrierAnswer, GateRefusal>
     ensures { reading_of result ≡ answer_reading src.now }
 {
-    if src.len() == 0 {
-        return Err(GateRefusal::Length);
+    match *src {
+        [ACK] => Ok(BarrierAnswer::Ack),
+        [NAK] => Ok(BarrierAnswer::Nak),
+        [BUSY] => Ok(BarrierAnswer::Busy),
+        [SYN] => Ok(BarrierAnswer::Syn),
+        [COUNT, first, second, third, fourth] => {
+            let bits = signed::of_four([first, second, third, fourth]);
+            Ok(BarrierAnswer::Count(i32::from_bits(bits)))
+        }
+        [POSITION, bits] => read_position(bits),
+        [] | [ACK | NAK | BUSY | SYN | COUNT | POSITION, ..] => Err(GateRefusal::Length),
+        _ => Err(GateRefusal::Kind),
     }
-    let kind = src[0];
-    if kind == ACK {
-        return read_alone(BarrierAnswer::Ack, src);
-    }
-    if kind == NAK {
-        return read_alone(BarrierAnswer::Nak, src);
-    }
-    if kind == BUSY {
-        return read_alone(BarrierAnswer::Busy, src);
-    }
-    if kind == SYN {
-        return read_alone(BarrierAnswer::Syn, src);
-    }
-    if kind == COUNT {
-        return read_count(src);
-    }
-    if kind == POSITION {
-        return read_position(src);
-    }
-    Err(GateRefusal::Kind)
 }
