@@ -2,8 +2,7 @@
 -- Assumes nothing.
 use mathlib.Core.Path.{subst}
 use Rattle.c_net.specs.Bounds.{NetBounds}
-use Rattle.c_net.specs.Private.Small.{SmallRun}
-use Rattle.c_net.proofs.Runs.{small_run, refusal_told}
+use Rattle.c_net.proofs.Runs.{SmallRun, small_run, refusal_told}
 
 pub net_bounds : NetBounds
 net_bounds = record {

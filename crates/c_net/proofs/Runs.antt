@@ -19,15 +19,16 @@ use Rattle.net_journey.specs.Terms.{last_telegram, is_fine, all_fine, ordinary, 
 use Rattle.net_journey.specs.Bounded.{most_transmissions}
 use Rattle.net_journey.proofs.Whole.{at_most_62}
 use Rattle.net_hop.specs.Tables.{net_of, set_up}
-use Rattle.net_dry_run.specs.DryRun.{Outcome, played, outright, outcome_of, DryRun, run_output, of_course, run_of, dry_run, RanTheJourney}
-use Rattle.std.specs.Prelude.{Result, Ok}
-use Rattle.refusal.specs.declared.Refusal.{Refusal}
-use Rattle.net_dry_run.specs.declared.Played.{Played}
+use Rattle.net_dry_run.specs.DryRun.{Outcome, played, outright, DryRun, run_output, of_course, run_of, dry_run, RanTheJourney}
 use Rattle.net_hop.proofs.Tables.{good_net_lem}
 use Rattle.net_dry_run.proofs.Journeys.{runs_the_journey}
 use Rattle.c_answer.specs.Answer.{refused}
 use Rattle.c_net.specs.Net.{ran, ran_by, dry_run_call}
-use Rattle.c_net.specs.Private.Small.{SmallRun}
+
+-- an outcome whose numbers fit: no more transmissions than a journey can have, and the last telegram in the places of the output
+abbrev pub SmallRun : Outcome → Type 0
+SmallRun (played count e n) = (count ≤ most_transmissions) × (n ≤ run_output)
+SmallRun (outright k) = Unit
 
 -- the last of telegrams without a fault in their headers is short
 fine_short : (tg : List ℕ) (r : Reading) → reading Station tg ≡ r → is_fine r ≡ true → length tg ≤ max_telegram
@@ -98,11 +99,6 @@ module _ (tg addresses tables out : List ℕ) where
 
   pub refusal_told : Ended (dry_run tg addresses tables out).outcome
   refusal_told = outcome_by Ended not_ended ended_journey
-
--- of an answer that is a run
-pub small_parts : (p : Played) {a : Result Played Refusal} → SmallRun (outcome_of a) → a ≡ Ok p →
-    (p.count ≤ most_transmissions) × (p.length ≤ run_output)
-small_parts p small told = subst (λ (x : Result Played Refusal). SmallRun (outcome_of x)) told small
 
 -- the call, by the length of the result
 module _ (tg addresses tables out result : List ℕ) where

@@ -1,13 +1,10 @@
 // The call of a dry run as a function for C: net_dry_run::dry_run. include/hanraquin.h says it for the programmer.
 #![tactic(auto)]
 
-ghost use Rattle.std.specs.Prelude.{◌≡◌, [], ◌∷◌, length};
+ghost use Rattle.std.specs.Prelude.{◌≡◌};
 ghost use Rattle.net_hop.specs.Hop.{ending_of};
-ghost use Rattle.net_dry_run.specs.DryRun.{outcome_of};
-ghost use Rattle.c_net.specs.Net.{ending_number, of_outcome, result_after, ran, dry_run_call};
-ghost use Rattle.c_net.specs.Private.Small.{SmallRun};
+ghost use Rattle.c_net.specs.Net.{ending_number, ran, dry_run_call};
 
-use net_dry_run::Played;
 use net_hop::JourneyEnd;
 use refusal::{Numbered, Refusal};
 
@@ -19,37 +16,6 @@ fn ending_number(end: JourneyEnd) -> u32
         JourneyEnd::AtZero => 0,
         JourneyEnd::AtNobody => 1,
         JourneyEnd::Refused(r) => r.number() as u32,
-    }
-}
-
-// Writes a result as three numbers.
-fn put_result(count: u32, ending: u32, last: u32, res: &mut [u32])
-    requires { length res.old ≡ 3 }
-    ensures { res.new ≡ count ∷ ending ∷ last ∷ [] }
-{
-    res[0] = count;
-    res[1] = ending;
-    res[2] = last;
-}
-
-// The answer of a dry run, and its result.
-fn of_outcome(answer: Result<Played, Refusal>, res: &mut [u32]) -> u64
-    requires res_len { length res.old ≡ 3 }
-    requires small_run { SmallRun (outcome_of answer) }
-    ensures value { result ≡ of_outcome (outcome_of answer) }
-    ensures res_after { res.new ≡ result_after (outcome_of answer) res.old }
-{
-    match answer {
-        Ok(played) => {
-            put_result(
-                played.count as u32,
-                ending_number(played.ending),
-                played.length as u32,
-                res,
-            );
-            played.count as u64
-        }
-        Err(r) => c_answer::refused(r),
     }
 }
 
@@ -68,6 +34,12 @@ pub fn hanraquin_dry_run(
     if res.len() != 3 {
         return c_answer::refused(Refusal::Setup);
     }
-    let answer = net_dry_run::dry_run(telegram, addresses, &mut *tables, &mut *out);
-    of_outcome(answer, &mut *res)
+    match net_dry_run::dry_run(telegram, addresses, tables, out) {
+        Ok(played) => {
+            let ending = ending_number(played.ending);
+            res.copy_from_slice(&[played.count as u32, ending, played.length as u32]);
+            played.count as u64
+        }
+        Err(r) => c_answer::refused(r),
+    }
 }

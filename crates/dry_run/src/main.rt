@@ -2,25 +2,17 @@
 // 12, 13 and 55; its journey is told on standard output.
 #![tactic(auto)]
 
-ghost use Rattle.std.specs.Prelude.{◌≡◌, ◌++◌};
+ghost use Rattle.std.specs.Prelude.{◌≡◌, [], ◌∷◌};
 ghost use Rattle.mop_registers.specs.Rows.{factory};
 
 use mop_registers::TABLE_LENGTH;
 use std::io;
 
-// The places of the tables of three stations.
-const PLACES: usize = 3 * TABLE_LENGTH;
-
-// The tables of three stations as they leave the factory, end to end.
-fn factory_tables() -> [u16; PLACES]
-    ensures { result ≡ factory ++ (factory ++ factory) }
+// The tables of three stations as they leave the factory.
+fn factory_tables() -> [[u16; TABLE_LENGTH]; 3]
+    ensures { result ≡ factory ∷ factory ∷ factory ∷ [] }
 {
-    let values = mop_registers::factory();
-    let mut tables = [0u16; PLACES];
-    tables[..TABLE_LENGTH].copy_from_slice(&values);
-    tables[TABLE_LENGTH..2 * TABLE_LENGTH].copy_from_slice(&values);
-    tables[2 * TABLE_LENGTH..].copy_from_slice(&values);
-    tables
+    [mop_registers::factory(); 3]
 }
 
 fn main(rt: HostRuntime) -> io::Result<()> {
@@ -30,9 +22,16 @@ fn main(rt: HostRuntime) -> io::Result<()> {
     let addresses = [0x12u8, 0x13, 0x55];
     let mut tables = factory_tables();
     let mut text = [0u8; 6500];
-    match net_report::report(&input[..n], &addresses, &mut tables, &mut text) {
-        Ok(length) => rt.write_all(&text[..length.min(text.len())]),
-        // Only an output that is too short is refused, and this one is not.
-        Err(_) => Ok(()),
+    let answer = net_report::report(
+        &input[..n],
+        &addresses,
+        tables.as_flattened_mut(),
+        &mut text,
+    );
+    if let Ok(length) = answer
+        && let Some(told) = text.get(..length)
+    {
+        rt.write_all(told)?;
     }
+    Ok(())
 }
