@@ -13,7 +13,7 @@ pub const COMMANDS: usize = 10;
 // The first byte of an operating command.
 const OPERATE: u8 = 0x01;
 
-// A level and an edge register for each command.
+// A level and an edge register for each command: two arrays, as the theorems and the calls for C have them.
 #[derive(Clone, Copy)]
 pub struct GateRegisters {
     pub levels: [bool; 10],

@@ -149,7 +149,8 @@ fn length_byte(destination: u8, source: u8, check: u16, b: u8) -> GateStep
     })
 }
 
-// A data byte, or the high byte of the check behind the last one.
+// A data byte, or the high byte of the check behind the last one. Here and below the fields of a state come one by one, and
+// the bound of its size is asked for, since theorems and the calls for C name GateState and its fields.
 #[tactic(auto, unfolding(crate::specs::Receive::data_of))]
 fn data_byte(
     destination: u8,

@@ -38,7 +38,12 @@ fn are_bad(destination: u8, source: u8, n: usize) -> bool
 }
 
 // Writes the telegram, for which the output has room.
-fn write_telegram(destination: u8, source: u8, src: &[u8], out: &mut [u8]) -> Result<usize, GateRefusal>
+fn write_telegram(
+    destination: u8,
+    source: u8,
+    src: &[u8],
+    out: &mut [u8],
+) -> Result<usize, GateRefusal>
     requires { (length src.now ≤ 253) × (length src.now + 6 ≤ length out.old) }
     ensures { filling_of result out.new ≡ written (telegram_of destination source src.now) out.old }
 {
