@@ -87,7 +87,7 @@ module _ (tg addresses tables out : List ℕ) where
   Ended o = (count k n : ℕ) → o ≡ played count (refused_with k) n → (7 ≤ k) × (k ≤ 10)
 
   not_ended : (k : ℕ) → Ended (outright k)
-  not_ended k count k₁ n e = let z : ◌≡◌ {A = ℕ} 0 1 = cc in absurd (omega arith)
+  not_ended k count k₁ n e = cc
 
   ended_journey : (h : Head) → reading Station tg ≡ sound h → set_up addresses tables ≡ true → (r : RanTheJourney tg addresses tables out) →
       Ended (of_course r.journey.course out).outcome

@@ -148,7 +148,7 @@ run_ends {addresses} {body = body} {after = after} {gone = gone} {g = g} {e = e}
 -- nobody answers a reply
 pub never_turns : {X : Type 0} {addresses places tables : List ℕ} {before : ℕ} {h : Head} {body after : List ℕ} {gone : ℕ} {g : Head} {reply : List ℕ} →
     h.function ≡ Reply → LegTurns addresses places tables before h body after gone g reply → X
-never_turns e p = let r = p.request in let z : ◌≡◌ {A = ℕ} 0 1 = cc in absurd (omega arith)
+never_turns e p = let r = p.request in cc
 
 -- a telegram that was read, and the parts of it that are lent: its block from start on, and its body from n on
 module _ (read : Header) (tg addresses tables : List ℕ) (order : reading Station tg ≡ sound (head_of read (drop (block_start read.form) tg)))

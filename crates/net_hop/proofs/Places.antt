@@ -52,7 +52,7 @@ module _ (a : ℕ) where
   placed_at : (places : List ℕ) (n : ℕ) (list : List ℕ) → a < length places → distinct_addresses list ≡ true → has a list ≡ true →
       get_or (placing places n list) a 0 ≡ suc (n + place_in a list)
   unfolding placing has distinct_addresses
-  placed_at places n [] h d e = let z : ◌≡◌ {A = ℕ} 0 1 = cc in absurd (omega arith)
+  placed_at places n [] h d e = cc
   placed_at places n (x ∷ rest) h d e =
       let p = (and-eq-true_iff (is_address x && not (has x rest)) (distinct_addresses rest)).0 d in
       let q = (and-eq-true_iff (is_address x) (not (has x rest))).0 p.0 in

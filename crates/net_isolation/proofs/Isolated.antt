@@ -160,13 +160,13 @@ replies_isolated tg addresses h order reply tables tables' out out' lengths =
 -- an answer by its outcome
 same_end : (e f : JourneyEnd) → ending_of e ≡ ending_of f → e ≡ f
 same_end end.AtZero end.AtZero x = refl
-same_end end.AtZero end.AtNobody x = let z : ◌≡◌ {A = ℕ} 0 1 = cc in absurd (omega arith)
-same_end end.AtZero (end.Refused r) x = let z : ◌≡◌ {A = ℕ} 0 1 = cc in absurd (omega arith)
-same_end end.AtNobody end.AtZero x = let z : ◌≡◌ {A = ℕ} 0 1 = cc in absurd (omega arith)
+same_end end.AtZero end.AtNobody x = cc
+same_end end.AtZero (end.Refused r) x = cc
+same_end end.AtNobody end.AtZero x = cc
 same_end end.AtNobody end.AtNobody x = refl
-same_end end.AtNobody (end.Refused r) x = let z : ◌≡◌ {A = ℕ} 0 1 = cc in absurd (omega arith)
-same_end (end.Refused r) end.AtZero x = let z : ◌≡◌ {A = ℕ} 0 1 = cc in absurd (omega arith)
-same_end (end.Refused r) end.AtNobody x = let z : ◌≡◌ {A = ℕ} 0 1 = cc in absurd (omega arith)
+same_end end.AtNobody (end.Refused r) x = cc
+same_end (end.Refused r) end.AtZero x = cc
+same_end (end.Refused r) end.AtNobody x = cc
 same_end (end.Refused r) (end.Refused s) x = ap end.Refused (numbers_differ r s cc)
 
 same_answer : (r s : Result Played Refusal) → outcome_of r ≡ outcome_of s → r ≡ s

@@ -231,7 +231,7 @@ module _ (tg : List ℕ) (net net' : Net) (c d : Course) (good : good_net net �
   after_same : (r : Reading) → reading Station tg ≡ r → table_at a c.after ≡ table_at a d.after
   after_same (sound h) order = at_station h order (eqb a (before_zeros h.block)) refl
   after_same (faulty k) fault =
-      (both_journeys tg net net' good good' stations (λ h e. let x = sym fault ∙ e in let z : ◌≡◌ {A = ℕ} 0 1 = cc in absurd (omega arith)) i j).kept a same
+      (both_journeys tg net net' good good' stations (λ h e. let x = sym fault ∙ e in cc) i j).kept a same
 
 pub tables_isolated : TablesIsolated
 tables_isolated tg net net' c d good good' stations i j a same = after_same tg net net' c d good good' stations i j a same (reading Station tg) refl

@@ -85,5 +85,5 @@ module _ (h : Head) (body : List ℕ) (room : ℕ) where
         (h.function ≡ Request) × (next h.block ≡ 0)
     step_answers own set mine {reply} e =
         act_either own h body t room (λ (s : Step). s.stepped ≡ answers g reply → (h.function ≡ Request) × (next h.block ≡ 0))
-        (λ k x. let z : ◌≡◌ {A = ℕ} 0 1 = cc in absurd (omega arith)) (λ l x. let z : ◌≡◌ {A = ℕ} 0 1 = cc in absurd (omega arith))
+        (λ k x. cc) (λ l x. cc)
         (λ c l x. (c.request, c.last)) mine (ap (λ (s : Step). s.stepped) (sym (for_this own h body t room set mine)) ∙ e)

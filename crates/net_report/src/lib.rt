@@ -19,7 +19,7 @@ ghost use Rattle.net_report.specs.Private.Legs.{most_characters, telling_from, L
 use mop_header::Header;
 use mop_reader::Reader;
 use mop_step::REPLY_BODY;
-use net_hop::{HopAnswer, JourneyEnd};
+use net_hop::{HopAnswer, JourneyEnd, MOST_TRANSMISSIONS};
 use refusal::{Numbered, Refusal};
 use std::ops::ControlFlow;
 
@@ -34,7 +34,8 @@ fn hex_digit(n: u8) -> u8
     if n < 10 { b'0' + n } else { b'A' + (n - 10) }
 }
 
-// Each function below that writes gives back the place behind what it wrote, and has a bound for it.
+// Each function below that writes gives back the place behind what it wrote, and has a bound for it. The output and the place stay
+// two parameters: a struct that holds them would need clauses in each function that it keeps its output and the output's length.
 
 // A byte in two hex digits, behind a space.
 fn write_byte(b: u8, out: &mut [u8], at: usize) -> usize
@@ -136,8 +137,8 @@ fn write_outright(refusal: Refusal, out: &mut [u8]) -> usize
     place + 1
 }
 
-// Where a destination answered: the header of the reply, how many bytes its body has, how many transmissions are told, and the place
-// behind their lines.
+// Where a destination answered: the header of the reply, how many bytes its body has, how many transmissions are told, and the
+// place behind their lines.
 #[derive(Clone, Copy)]
 struct Turn {
     header: Header,
@@ -147,7 +148,8 @@ struct Turn {
 }
 
 // A leg of a journey, told from a place on: a line for each transmission. Where the journey ends the last line follows, and the text
-// ends before the place given back; where a destination answers the leg stops. The return at the bound is never taken, since no journey has more transmissions.
+// ends before the place given back; where a destination answers the leg stops. What is behind the loop is never told, since no
+// journey has more transmissions.
 fn write_leg(
     first: Header,
     block: &[u8],
@@ -166,14 +168,10 @@ fn write_leg(
 {
     let places = net_hop::places_of(addresses);
     let mut header = first;
-    let mut told = before;
     let mut place = at;
-    loop {
-        told += 1;
+    for gone in before..MOST_TRANSMISSIONS as u8 {
+        let told = gone + 1;
         place = write_line(told, header, block, out, place);
-        if net_hop::MOST_TRANSMISSIONS < told as usize {
-            return ControlFlow::Break(write_closing(told, JourneyEnd::AtZero, out, place));
-        }
         match net_hop::hop(header, block, body, &places, tables, reply) {
             HopAnswer::Relayed(h) => header = h,
             HopAnswer::Answered(header, length) => {
@@ -189,6 +187,9 @@ fn write_leg(
             }
         }
     }
+    let told = MOST_TRANSMISSIONS as u8 + 1;
+    place = write_line(told, header, block, out, place);
+    ControlFlow::Break(write_closing(told, JourneyEnd::AtZero, out, place))
 }
 
 // The text of the journey of a telegram that was read: to its end, or to its destination and then home. The reply is only relayed,
