@@ -35,20 +35,6 @@ module _ (f : Function) (a b c d : ℕ) where
       let r = (and-eq-true_iff (eqb d 0xEF) (may_begin f a)).0 q.1 in
       (eqb-true b 0xEF p.0, eqb-true c 0xEF q.0, eqb-true d 0xEF r.0)
 
-pub begins : (f : Function) (a : ℕ) → a ≡ 0xEF → may_begin f a ≡ true
-unfolding may_begin
-begins Request a e = rw e
-begins Reply a e = rw e
-
-module _ (a : ℕ) (other : a ≡ 0xEF → ⊥) where
-  pub begins_request : may_begin Request a ≡ false
-  unfolding may_begin
-  begins_request = simp (ne_eqb _ _ other)
-
-  pub begins_reply : may_begin Reply a ≡ eqb a 0
-  unfolding may_begin
-  begins_reply = simp (ne_eqb _ _ other)
-
 -- the first byte that a mark has to have makes it one
 pub own_mark : (f : Function) (a : ℕ) → is_mark f (mark_byte f a) 0xEF 0xEF 0xEF ≡ true
 unfolding is_mark may_begin mark_byte

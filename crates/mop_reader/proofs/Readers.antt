@@ -16,11 +16,6 @@ use Rattle.mop_header.specs.declared.Function.TheVariants.{Request, Reply}
 use Rattle.mop_reader.specs.declared.Reader.{Reader}
 use Rattle.mop_reader.specs.declared.Reader.TheVariants.{Station, Centre}
 
-pub reply_allowed : (who : Reader) (f : ℕ) → f ≡ 0xE0 → allowed who f ≡ true
-unfolding allowed
-reply_allowed Station f e = rw e
-reply_allowed Centre f e = rw e
-
 module _ (f : ℕ) (other : f ≡ 0xE0 → ⊥) where
   pub station_allows : allowed Station f ≡ eqb f 0x60
   unfolding allowed
@@ -45,16 +40,7 @@ pub byte_at : (who : Reader) (tg : List ℕ) → allowed who (get_or tg 0 0) ≡
 unfolding function_at
 byte_at who tg a = byte_by who (get_or tg 0 0) (eqb (get_or tg 0 0) 0xE0) refl a
 
-pub none_takes : (who : Reader) (b : List ℕ) → good_block b ≡ false → good_for who b ≡ false
-unfolding good_for
-none_takes Station b e = e
-none_takes Centre b e = rw e
-
 module _ (b : List ℕ) (good : good_block b ≡ true) where
-  pub station_takes : good_for Station b ≡ true
-  unfolding good_for
-  station_takes = good
-
   pub centre_takes : good_for Centre b ≡ ltb 0 (length (stations b))
   unfolding good_for
   centre_takes = rw good

@@ -4,8 +4,7 @@
 ghost use Rattle.std.specs.Prelude.{◌≡◌, ℕ, ◌≤◌, List, ◌++◌, length, drop, eqb};
 ghost use Rattle.base.specs.Choice.{pick};
 ghost use Rattle.mop_header.specs.declared.Function.TheVariants.{Request, Reply};
-ghost use Rattle.mop_header.specs.declared.Form.TheVariants.{Standard, Extended};
-ghost use Rattle.mop_header.specs.Header.{head, block_start, is_mark};
+ghost use Rattle.mop_header.specs.Header.{head, block_start, may_begin, is_mark};
 ghost use Rattle.mop_reader.specs.Reading.{reading_of, allowed, good_for, judged, reading};
 
 use mop_header::{Form, Function, Header, MARK};
@@ -29,21 +28,29 @@ fn function_of(byte: u8) -> Function
     ensures { result ≡ pick (eqb byte 0xE0) Reply Request }
 {
     if byte == 0xE0 {
-        return Function::Reply;
+        Function::Reply
+    } else {
+        Function::Request
     }
-    Function::Request
 }
 
 // Whether a reader takes a function byte.
 fn is_allowed(reader: Reader, byte: u8) -> bool
     ensures { result ≡ allowed reader byte }
 {
-    if byte == 0xE0 {
-        return true;
-    }
     match reader {
-        Reader::Station => byte == 0x60,
-        Reader::Centre => false,
+        Reader::Station => byte == 0x60 || byte == 0xE0,
+        Reader::Centre => byte == 0xE0,
+    }
+}
+
+// Whether a mark may begin with an entry.
+fn may_begin(function: Function, a: u8) -> bool
+    ensures { result ≡ may_begin function a }
+{
+    match function {
+        Function::Request => a == MARK,
+        Function::Reply => a == MARK || a == 0,
     }
 }
 
@@ -51,21 +58,9 @@ fn is_allowed(reader: Reader, byte: u8) -> bool
 fn is_mark(function: Function, a: u8, b: u8, c: u8, d: u8) -> bool
     ensures { result ≡ is_mark function a b c d }
 {
-    if b != MARK {
-        return false;
-    }
-    if c != MARK {
-        return false;
-    }
-    if d != MARK {
-        return false;
-    }
-    if a == MARK {
-        return true;
-    }
-    match function {
-        Function::Request => false,
-        Function::Reply => a == 0,
+    match (b, c, d) {
+        (MARK, MARK, MARK) => may_begin(function, a),
+        _ => false,
     }
 }
 
@@ -73,17 +68,20 @@ fn is_mark(function: Function, a: u8, b: u8, c: u8, d: u8) -> bool
 fn good_for(reader: Reader, block: &[u8]) -> bool
     ensures { result ≡ good_for reader block.now }
 {
-    if !mop_block::good_block(block) {
-        return false;
-    }
     match reader {
-        Reader::Station => true,
-        Reader::Centre => mop_block::names_somebody(block),
+        Reader::Station => mop_block::good_block(block),
+        Reader::Centre => mop_block::good_block(block) && mop_block::names_somebody(block),
     }
 }
 
 // A header of these parts, beside its block: 5 for the block, then 6 for the mark.
-fn judge(reader: Reader, function: Function, control: u8, form: Form, block: &[u8]) -> Result<Header, Refusal>
+fn judge(
+    reader: Reader,
+    function: Function,
+    control: u8,
+    form: Form,
+    block: &[u8],
+) -> Result<Header, Refusal>
     requires { length block.now ≤ 32 }
     ensures { (tg rest : List ℕ) → drop (block_start form) tg ≡ block.now ++ rest → reading_of result tg ≡ judged reader (head function control form block.now) }
 {
@@ -97,16 +95,6 @@ fn judge(reader: Reader, function: Function, control: u8, form: Form, block: &[u
     Ok(header)
 }
 
-// The form of a header, by whether its four entries are the mark.
-fn form_of(extended: bool, mark: u8) -> Form
-    ensures { result ≡ pick extended (Extended mark) Standard }
-{
-    if extended {
-        return Form::Extended(mark);
-    }
-    Form::Standard
-}
-
 // The header of a telegram, to stand beside the telegram from its block on; or why it is refused: 12, 2, 3, if extended 2, 4, 2,
 // then 5, 6.
 pub fn read(reader: Reader, telegram: &[u8]) -> Result<Header, Refusal>
@@ -115,35 +103,32 @@ pub fn read(reader: Reader, telegram: &[u8]) -> Result<Header, Refusal>
     if MAX_TELEGRAM < telegram.len() {
         return Err(Refusal::TooLong);
     }
-    if telegram.len() < 6 {
+    let [byte, control, a, b, c, d, ..] = *telegram else {
         return Err(Refusal::HeaderCut);
-    }
-    let byte = telegram[0];
+    };
     if !is_allowed(reader, byte) {
         return Err(Refusal::Function);
     }
     let function = function_of(byte);
-    let extended = is_mark(function, telegram[2], telegram[3], telegram[4], telegram[5]);
-    let mut start: usize = 2;
-    let mut end: usize = 6;
-    if extended {
-        if telegram.len() < 7 {
-            return Err(Refusal::HeaderCut);
-        }
-        let entries = telegram[6];
-        let count = entries as usize;
-        if count < 2 {
-            return Err(Refusal::ExtendedCount);
-        }
-        if MAX_ENTRIES < count {
-            return Err(Refusal::ExtendedCount);
-        }
-        start = 7;
-        end = 7 + count;
-        if telegram.len() < end {
-            return Err(Refusal::HeaderCut);
-        }
+    if !is_mark(function, a, b, c, d) {
+        return judge(reader, function, control, Form::Standard, &telegram[2..6]);
     }
-    let form = form_of(extended, telegram[2]);
-    judge(reader, function, telegram[1], form, &telegram[start..end])
+    if telegram.len() < 7 {
+        return Err(Refusal::HeaderCut);
+    }
+    let count = telegram[6] as usize;
+    if count < 2 || MAX_ENTRIES < count {
+        return Err(Refusal::ExtendedCount);
+    }
+    let end = 7 + count;
+    if telegram.len() < end {
+        return Err(Refusal::HeaderCut);
+    }
+    judge(
+        reader,
+        function,
+        control,
+        Form::Extended(a),
+        &telegram[7..end],
+    )
 }

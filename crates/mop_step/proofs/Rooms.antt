@@ -2,9 +2,11 @@
 -- Assumes nothing.
 use mathlib.Core.Path.{◌≡◌, refl, sym, ◌∙◌, ap, subst}
 use mathlib.Core.List.{List}
-use Prim.Native.Nat.{ℕ, ◌≤◌}
+use Prim.Native.Nat.{ℕ, ◌+◌, ◌-◌, ◌≤◌}
+use mathlib.Core.Bool.{Bool, true, false}
+use borrow.Author.Tests.{le-leb, lt-leb, leb-true, leb-false}
 use native.Mathlib.Omega.{arith}
-use lib.Dec.{ltb}
+use lib.Dec.{ltb, leb}
 use lib.ListN.{length}
 use Rattle.base.proofs.Choice.{pick_either}
 use Rattle.mop_header.specs.Header.{Head, telegram_of}
@@ -72,3 +74,11 @@ module _ (own : ℕ) (h : Head) (body t reply : List ℕ) (room : ℕ) where
 
 pub replies_fit : RepliesFit
 replies_fit own h body t room reply places = lent_made own h body t reply room places
+
+-- a header, and the body behind it, by the room that the header leaves
+pub behind_header : (n body room : ℕ) {m : ℕ} → m ≡ n → m ≤ room → leb body (room - m) ≡ leb (n + body) room
+behind_header n body room {m} e h = go (leb body (room - m)) refl
+  where
+    go : (b : Bool) → leb body (room - m) ≡ b → leb body (room - m) ≡ leb (n + body) room
+    go true t = t ∙ sym (le-leb (n + body) room (omega (arith, leb-true body (room - m) t)))
+    go false f = f ∙ sym (lt-leb (n + body) room (omega (arith, leb-false body (room - m) f)))

@@ -29,14 +29,19 @@ pub enum StationStep {
     NotMine,
 }
 
+// A telegram whose header is in order, in its parts.
+#[derive(Clone, Copy)]
+struct Telegram<'a> {
+    header: Header,
+    block: &'a [u8],
+    body: &'a [u8],
+}
+
 // Whether an own address and a table are those of a station.
 pub fn is_station(own: u8, registers: &[u16]) -> bool
     ensures { result ≡ is_station own registers.now }
 {
-    if !mop_block::is_address(own) {
-        return false;
-    }
-    registers.len() == TABLE_LENGTH
+    mop_block::is_address(own) && registers.len() == TABLE_LENGTH
 }
 
 // Whether a header and a body of so many bytes have room.
@@ -44,21 +49,14 @@ fn has_room(header: Header, body: usize, room: usize) -> bool
     ensures { (slice : List ℕ) → result ≡ leb (header_length (head_of header slice) + body) room }
 {
     let n = header.length();
-    if room < n {
-        return false;
-    }
-    if room - n < body {
-        return false;
-    }
-    true
+    n <= room && body <= room - n
 }
 
 // A reply as it is sent: rolled right, then marked.
 fn sent_back(header: Header, block: &[u8]) -> Header
     ensures { head_of result block.now ≡ sent_back (head_of header block.now) }
 {
-    let rolled = header.rolled_right();
-    rolled.remarked(block)
+    header.rolled_right().remarked(block)
 }
 
 // The header that a relay sends on.
@@ -72,11 +70,11 @@ fn relayed_header(header: Header, block: &[u8]) -> Header
 }
 
 // A relay: the header that it sends on, or 11. It is given no registers, and of the body it looks at the length.
-fn relay(header: Header, block: &[u8], body: &[u8], room: usize) -> Result<StationStep, Refusal>
-    ensures { (t reply : List ℕ) → step_call_of result block.now t reply ≡ lending (relaying (head_of header block.now) body.now t room) t reply }
+fn relay(telegram: Telegram, room: usize) -> Result<StationStep, Refusal>
+    ensures { (t reply : List ℕ) → step_call_of result telegram.entry.block.now t reply ≡ lending (relaying (head_of telegram.entry.header telegram.entry.block.now) telegram.entry.body.now t room) t reply }
 {
-    let sent = relayed_header(header, block);
-    if !has_room(sent, body.len(), room) {
+    let sent = relayed_header(telegram.header, telegram.block);
+    if !has_room(sent, telegram.body.len(), room) {
         return Err(Refusal::OutputShort);
     }
     Ok(StationStep::Relayed(sent))
@@ -92,10 +90,7 @@ fn judge_runs(
 ) -> Result<(), Refusal>
     ensures { acceptance_of result ≡ judged_runs rstart rcount wstart wcount (words_of values.now) }
 {
-    if !mop_registers::run_exists(rstart, rcount) {
-        return Err(Refusal::NoRegister);
-    }
-    if !mop_registers::run_exists(wstart, wcount) {
+    if !mop_registers::run_exists(rstart, rcount) || !mop_registers::run_exists(wstart, wcount) {
         return Err(Refusal::NoRegister);
     }
     if !mop_registers::run_may_write(wstart, wcount) {
@@ -111,17 +106,12 @@ fn judge_runs(
 fn judge_body(body: &[u8]) -> Result<(), Refusal>
     ensures { acceptance_of result ≡ judged_body body.now }
 {
-    let n = body.len();
-    if n < 6 {
-        return Err(Refusal::BodyLength);
-    }
-    let wcount = body[5];
-    if n != 6 + 2 * wcount as usize {
+    if body.len() < 6 || body.len() != 6 + 2 * body[5] as usize {
         return Err(Refusal::BodyLength);
     }
     let rstart = words::word_of(body[0], body[1]);
     let wstart = words::word_of(body[3], body[4]);
-    judge_runs(rstart, body[2], wstart, wcount, &body[6..n])
+    judge_runs(rstart, body[2], wstart, body[5], &body[6..])
 }
 
 // All the writes of a body, from the place of its write start on.
@@ -129,10 +119,9 @@ fn write_registers(body: &[u8], registers: &mut [u16])
     requires { 6 ≤ length body.now }
     ensures { registers.new ≡ sets registers.old (place_of (write_start body.now)) (values_of body.now) }
 {
-    let n = body.len();
     let start = words::word_of(body[3], body[4]);
     let at = mop_registers::place_of(start as usize);
-    words::store_words(&body[6..n], registers, at);
+    words::store_words(&body[6..], registers, at);
 }
 
 // Puts the body of the reply into the first places: its values are those of the table from the place of the read start on.
@@ -143,34 +132,27 @@ fn put_reply(body: &[u8], registers: &[u16], reply: &mut [u8])
     ensures { reply.new ≡ placed (reply_with body.now (take (read_count body.now) (drop (place_of (read_start body.now)) registers.now))) reply.old }
 {
     let start = words::word_of(body[0], body[1]);
-    let count = body[2];
     let at = mop_registers::place_of(start as usize);
-    let end = at + count as usize;
-    places::put(&body[0..3], reply, 0);
+    let end = at + body[2] as usize;
+    places::put(&body[..3], reply, 0);
     words::put_words(&registers[at..end], reply, 3);
 }
 
 // Carries out a body that is accepted: 11, or all the writes, then the reads.
 fn carry_out(
-    header: Header,
-    block: &[u8],
-    body: &[u8],
+    telegram: Telegram,
     registers: &mut [u16],
     room: usize,
     reply: &mut [u8],
 ) -> Result<StationStep, Refusal>
-    requires body_value { judged_body body.now ≡ accepts }
+    requires body_value { judged_body telegram.body.now ≡ accepts }
     requires registers_len { length registers.old ≡ table_length }
-    ensures { step_call_of result block.now registers.new reply.new ≡ lending (answering accepts (head_of header block.now) body.now registers.old room) registers.old reply.old }
+    ensures { step_call_of result telegram.entry.block.now registers.new reply.new ≡ lending (answering accepts (head_of telegram.entry.header telegram.entry.block.now) telegram.entry.body.now registers.old room) registers.old reply.old }
 {
-    let new = header.as_reply();
-    let sent = sent_back(new, block);
-    let count = body[2];
-    let n = 3 + 2 * count as usize;
-    if !has_room(sent, n, room) {
-        return Err(Refusal::OutputShort);
-    }
-    if reply.len() < n {
+    let body = telegram.body;
+    let sent = sent_back(telegram.header.as_reply(), telegram.block);
+    let n = 3 + 2 * body[2] as usize;
+    if !has_room(sent, n, room) || reply.len() < n {
         return Err(Refusal::OutputShort);
     }
     write_registers(body, registers);
@@ -180,40 +162,37 @@ fn carry_out(
 
 // A destination: its refusals, or what it carries out.
 fn answer(
-    header: Header,
-    block: &[u8],
-    body: &[u8],
+    telegram: Telegram,
     registers: &mut [u16],
     room: usize,
     reply: &mut [u8],
 ) -> Result<StationStep, Refusal>
     requires { length registers.old ≡ table_length }
-    ensures { step_call_of result block.now registers.new reply.new ≡ lending (answering (judged_body body.now) (head_of header block.now) body.now registers.old room) registers.old reply.old }
+    ensures { step_call_of result telegram.entry.block.now registers.new reply.new ≡ lending (answering (judged_body telegram.entry.body.now) (head_of telegram.entry.header telegram.entry.block.now) telegram.entry.body.now registers.old room) registers.old reply.old }
 {
-    judge_body(body)?;
-    carry_out(header, block, body, registers, room, reply)
+    judge_body(telegram.body)?;
+    carry_out(telegram, registers, room, reply)
 }
 
 // A telegram for this station: it is the destination of a request if the next entry is 00, and else a relay.
 fn act(
-    header: Header,
-    block: &[u8],
-    body: &[u8],
+    telegram: Telegram,
     registers: &mut [u16],
     room: usize,
     reply: &mut [u8],
 ) -> Result<StationStep, Refusal>
     requires { length registers.old ≡ table_length }
-    ensures { step_call_of result block.now registers.new reply.new ≡ lending (acting header.function (next (head_of header block.now).block) (head_of header block.now) body.now registers.old room) registers.old reply.old }
+    ensures { step_call_of result telegram.entry.block.now registers.new reply.new ≡ lending (acting telegram.entry.header.function (next (head_of telegram.entry.header telegram.entry.block.now).block) (head_of telegram.entry.header telegram.entry.block.now) telegram.entry.body.now registers.old room) registers.old reply.old }
 {
-    match header.function {
+    match telegram.header.function {
         Function::Request => {
-            if header.next(block) == 0 {
-                return answer(header, block, body, registers, room, reply);
+            if telegram.header.next(telegram.block) == 0 {
+                answer(telegram, registers, room, reply)
+            } else {
+                relay(telegram, room)
             }
-            relay(header, block, body, room)
         }
-        Function::Reply => relay(header, block, body, room),
+        Function::Reply => relay(telegram, room),
     }
 }
 
@@ -239,5 +218,10 @@ pub fn step(
     if header.first(block) != own {
         return Ok(StationStep::NotMine);
     }
-    act(header, block, body, registers, room, reply)
+    let telegram = Telegram {
+        header,
+        block,
+        body,
+    };
+    act(telegram, registers, room, reply)
 }

@@ -1,14 +1,17 @@
 -- `is_allowed`: everybody takes replies, and a station requests too.
 -- Assumes nothing.
-use mathlib.Core.Path.{sym}
-use Rattle.mop_reader.proofs.Readers.{reply_allowed, station_allows, centre_allows}
+use borrow.Author.Tests.{ne_eqb}
+use Rattle.mop_reader.specs.Reading.{allowed}
 use Rattle.mop_reader.proofs.is_allowed.Goals as goal
 
-pub returns-then-byte-eq224 : goal.returns-then-byte-eq224
-returns-then-byte-eq224 c = sym (reply_allowed _ _ c.if-byte-eq224.true)
+pub returns-then-byte-eq96 : goal.returns-then-byte-eq96
+unfolding allowed
+returns-then-byte-eq96 c = rw (c.in-Station.is, c.if-byte-eq96.true)
 
-pub returns-in-Station : goal.returns-in-Station
-returns-in-Station c = rw c.in-Station.is (sym (station_allows _ c.if-byte-eq224.false))
+pub returns-else-byte-eq96 : goal.returns-else-byte-eq96
+unfolding allowed
+returns-else-byte-eq96 c = rw (c.in-Station.is, ne_eqb c.args.byte 96 c.if-byte-eq96.false)
 
 pub returns-in-Centre : goal.returns-in-Centre
-returns-in-Centre c = rw c.in-Centre.is (sym (centre_allows _ c.if-byte-eq224.false))
+unfolding allowed
+returns-in-Centre c = rw c.in-Centre.is

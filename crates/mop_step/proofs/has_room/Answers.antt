@@ -1,23 +1,19 @@
 -- `has_room`: the header, then the body behind it.
 -- Assumes nothing.
 use Rattle.mop_header.specs.Header.{head_of, header_length}
-use borrow.Author.Tests.{lt-leb, le-leb}
+use borrow.Author.Tests.{lt-leb}
 use native.Mathlib.Omega.{arith}
-use mathlib.Core.Path.{sym}
+use mathlib.Core.Path.{sym, ◌∙◌}
 use Prim.Native.Nat.{◌+◌}
+use Rattle.mop_step.proofs.Rooms.{behind_header}
 use Rattle.mop_step.proofs.has_room.Goals as goal
 
-pub returns-then-room-n : goal.returns-then-room-n
-returns-then-room-n c =
+pub returns-then-n-room : goal.returns-then-n-room
+returns-then-n-room c =
     λ slice. let a = c.args in
-    sym (lt-leb (header_length (head_of a.header slice) + a.body) a.room (omega (arith, c.length-n.ensures slice)))
+    behind_header (header_length (head_of a.header slice)) a.body a.room (c.length-n.ensures slice) c.if-n-room.true
 
-pub returns-then-room-n-2 : goal.returns-then-room-n-2
-returns-then-room-n-2 c =
+pub returns-else-n-room : goal.returns-else-n-room
+returns-else-n-room c =
     λ slice. let a = c.args in
-    sym (lt-leb (header_length (head_of a.header slice) + a.body) a.room (omega (arith, c.length-n.ensures slice)))
-
-pub returns : goal.returns
-returns c =
-    λ slice. let a = c.args in
-    sym (le-leb (header_length (head_of a.header slice) + a.body) a.room (omega (arith, c.length-n.ensures slice)))
+    lt-leb c.length-n.result a.room c.if-n-room.false ∙ sym (lt-leb (header_length (head_of a.header slice) + a.body) a.room (omega (arith, c.length-n.ensures slice)))

@@ -5,10 +5,10 @@ use Rattle.mop_step.specs.Step.{is_station}
 use mathlib.Core.Path.{sym, ◌∙◌}
 use Rattle.mop_step.proofs.is_station.Goals as goal
 
-pub returns-then-not-is_address : goal.returns-then-not-is_address
+pub returns-then-is_address : goal.returns-then-is_address
 unfolding is_station
-returns-then-not-is_address c = sym (rw (sym c.is_address.ensures ∙ c.if-not-is_address.true))
+returns-then-is_address c = sym (rw (sym c.is_address.ensures ∙ c.if-is_address.true, table_length_lem))
 
-pub returns : goal.returns
+pub returns-else-is_address : goal.returns-else-is_address
 unfolding is_station
-returns c = sym (rw (sym c.is_address.ensures ∙ c.if-not-is_address.false, table_length_lem))
+returns-else-is_address c = c.if-is_address.false ∙ sym (rw (sym c.is_address.ensures ∙ c.if-is_address.false))

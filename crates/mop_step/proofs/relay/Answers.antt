@@ -12,11 +12,11 @@ unfolding lending
 returns-then-not-has_room c =
     let a = c.args in
     let sent = c.relayed_header-sent in
-    λ t reply. sym (ap (λ (s : Step). lending s t reply) (relay_short (head_of a.header a.block.now) a.body.now t a.room sent.ensures (short_by _ a.body.now a.room refl (c.has_room.ensures a.block.now) (ap not c.if-not-has_room.true))))
+    λ t reply. sym (ap (λ (s : Step). lending s t reply) (relay_short (head_of a.telegram.header a.telegram.block.now) a.telegram.body.now t a.room sent.ensures (short_by _ a.telegram.body.now a.room refl (c.has_room.ensures a.telegram.block.now) (ap not c.if-not-has_room.true))))
 
 pub returns : goal.returns
 unfolding lending
 returns c =
     let a = c.args in
     let sent = c.relayed_header-sent in
-    λ t reply. sym (ap (λ (s : Step). lending s t reply) (relay_sent (head_of a.header a.block.now) a.body.now t a.room sent.ensures (room_by _ a.body.now a.room refl (c.has_room.ensures a.block.now) (ap not c.if-not-has_room.false))))
+    λ t reply. sym (ap (λ (s : Step). lending s t reply) (relay_sent (head_of a.telegram.header a.telegram.block.now) a.telegram.body.now t a.room sent.ensures (room_by _ a.telegram.body.now a.room refl (c.has_room.ensures a.telegram.block.now) (ap not c.if-not-has_room.false))))

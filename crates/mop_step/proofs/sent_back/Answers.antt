@@ -7,4 +7,4 @@ use Rattle.mop_step.proofs.sent_back.Goals as goal
 
 pub returns : goal.returns
 unfolding sent_back
-returns c = c.remarked.ensures ∙ ap remarked (at_slice c.rolled_right-rolled.ensures c.args.block.now)
+returns c = c.remarked.ensures ∙ ap remarked (at_slice c.rolled_right.ensures c.args.block.now)
