@@ -17,7 +17,8 @@ pub(crate) fn tables_before() -> [u16; PLACES] {
     array::from_fn(value_before)
 }
 
-// The first place, from n on, whose value changed; the length where there is none.
+// The first place, from n on, whose value changed; the length where there is none. It is no `first_other`, since what a register was
+// depends on its place.
 fn first_changed(s: &[u16], n: usize) -> usize {
     for i in n..s.len() {
         if s[i] != value_before(i) {
