@@ -31,8 +31,8 @@ pub struct Played {
     pub length: usize,
 }
 
-// What stays the same on a leg of a journey: the addresses of the stations, which are for the contracts, the table of their places,
-// the slice that has the block of the telegram, and its body.
+// What stays the same on a leg of a journey: the addresses of the stations, which are for the contracts, the table of their
+// places, the slice that has the block of the telegram, and its body.
 #[derive(Clone, Copy)]
 struct Leg<'a> {
     addresses: &'a [u8],

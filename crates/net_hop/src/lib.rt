@@ -30,8 +30,8 @@ pub enum JourneyEnd {
     Refused(Refusal),
 }
 
-// What a hop gives: the header with which the telegram goes on, with its own body; the header of the reply, and how many bytes its
-// body has; or how the journey ended.
+// What a hop gives: the header with which the telegram goes on, with its own body; the header of the reply, and how many bytes
+// its body has; or how the journey ended.
 #[derive(Clone, Copy)]
 pub enum HopAnswer {
     Relayed(Header),
@@ -48,8 +48,8 @@ pub fn is_set_up(addresses: &[u8], tables: &[u16]) -> bool
         && mop_block::distinct_addresses(addresses)
 }
 
-// A table of places: at each address one more than the place of its station in the list, and 0 at all other bytes. Of more than 64
-// addresses it has the first 64.
+// A table of places: at each address one more than the place of its station in the list, and 0 at all other bytes. Of more than
+// 64 addresses it has the first 64.
 pub fn places_of(addresses: &[u8]) -> [u8; BYTES]
     ensures { result ≡ places_of addresses.now }
 {
@@ -94,8 +94,8 @@ fn step_at(
 }
 
 // One hop of a journey: the station that the header's first entry names makes its step, with the table at its place and room for
-// the longest telegram. Relayed: the header with which the telegram goes on. Answered: the header of the reply, and how many places
-// of the lent buffer its body fills. Ended, and tables and buffer as they were: at an entry 00; at an address without a place, or
+// the longest telegram. Relayed: the header with which the telegram goes on. Answered: the header of the reply, and how many
+// places of the lent buffer its body fills. Ended, and tables and buffer as they were: at an entry 00; at an address without a place, or
 // with one that the tables do not reach; refused by that station.
 pub fn hop(
     header: Header,

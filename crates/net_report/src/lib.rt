@@ -34,8 +34,8 @@ fn hex_digit(n: u8) -> u8
     if n < 10 { b'0' + n } else { b'A' + (n - 10) }
 }
 
-// Each function below that writes gives back the place behind what it wrote, and has a bound for it. The output and the place stay
-// two parameters: a struct that holds them would need clauses in each function that it keeps its output and the output's length.
+// Each function below that writes gives back the place behind what it wrote, and has a bound for it. The output and the place
+// stay two parameters: a struct that holds them needs clauses in each function that it keeps its output and the output's length.
 
 // A byte in two hex digits, behind a space.
 fn write_byte(b: u8, out: &mut [u8], at: usize) -> usize
@@ -147,9 +147,9 @@ struct Turn {
     place: usize,
 }
 
-// A leg of a journey, told from a place on: a line for each transmission. Where the journey ends the last line follows, and the text
-// ends before the place given back; where a destination answers the leg stops. What is behind the loop is never told, since no
-// journey has more transmissions.
+// A leg of a journey, told from a place on: a line for each transmission. Where the journey ends the last line follows, and the
+// text ends before the place given back; where a destination answers the leg stops. What is behind the loop is never told, since
+// no journey has more transmissions.
 fn write_leg(
     first: Header,
     block: &[u8],
@@ -192,8 +192,8 @@ fn write_leg(
     ControlFlow::Break(write_closing(told, JourneyEnd::AtZero, out, place))
 }
 
-// The text of the journey of a telegram that was read: to its end, or to its destination and then home. The reply is only relayed,
-// so that nobody answers it.
+// The text of the journey of a telegram that was read: to its end, or to its destination and then home. The reply is only
+// relayed, so that nobody answers it.
 fn write_journey(
     header: Header,
     telegram: &[u8],
