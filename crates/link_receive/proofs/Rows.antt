@@ -5,7 +5,7 @@ use mathlib.Core.List.{List}
 use Prim.Native.Nat.{ℕ}
 use native.Mathlib.Omega.{arith}
 use borrow.Author.Tests.{eq-eqb, ne_eqb}
-use Rattle.link_frame.specs.ControlBytes.{STX, ETX, DLE, NAK}
+use Rattle.link_frame.specs.ControlBytes.{STX, ETX, DLE}
 use Rattle.link_receive.specs.Receive.{nothing, sends, delivers, at, to, with, resting, rest_of, data_of, inside_of, waiting_of}
 use Rattle.link_receive.specs.declared.Dle.TheVariants.{Seen, NotSeen}
 use Rattle.link_receive.specs.declared.Phase.TheVariants.{Inside, Waiting}
@@ -14,14 +14,6 @@ module _ (b : ℕ) where
   pub rest_stx : b ≡ STX → rest_of b ≡ to (sends DLE) (at (Inside NotSeen) 0 0)
   unfolding rest_of
   rest_stx e = rw e
-
-  pub rest_nak : b ≡ NAK → rest_of b ≡ resting nothing
-  unfolding rest_of
-  rest_nak e = rw e
-
-  pub rest_other : (b ≡ STX → ⊥) → (b ≡ NAK → ⊥) → rest_of b ≡ resting (sends NAK)
-  unfolding rest_of
-  rest_other s n = simp (ne_eqb _ _ s, ne_eqb _ _ n)
 
 module _ (n c b : ℕ) (buf : List ℕ) where
   pub inside_dle : b ≡ DLE → inside_of NotSeen n c b buf ≡ with (to nothing (at (Inside Seen) n c)) buf
@@ -40,15 +32,7 @@ module _ (n c b : ℕ) (buf : List ℕ) where
   unfolding inside_of
   seen_etx e = simp (ne_eqb b DLE (omega arith), eq-eqb _ _ e)
 
-  pub seen_other : (b ≡ DLE → ⊥) → (b ≡ ETX → ⊥) → inside_of Seen n c b buf ≡ with (resting (sends NAK)) buf
-  unfolding inside_of
-  seen_other d e = simp (ne_eqb _ _ d, ne_eqb _ _ e)
-
 module _ (n c b : ℕ) where
   pub right_check : b ≡ c → waiting_of n c b ≡ resting (delivers DLE n)
   unfolding waiting_of
   right_check e = simp (eq-eqb _ _ e)
-
-  pub wrong_check : (b ≡ c → ⊥) → waiting_of n c b ≡ resting (sends NAK)
-  unfolding waiting_of
-  wrong_check e = simp (ne_eqb _ _ e)

@@ -2,7 +2,7 @@
 #![tactic(auto)]
 
 ghost use Rattle.std.specs.Prelude.{◌≡◌};
-ghost use Rattle.link_receive.specs.Receive.{told_by, reaction_of, outcome_of, refuses, at, to, resting, rest_of, storing, store_of, data_of, inside_of, waiting_of, event_of, receive_of};
+ghost use Rattle.link_receive.specs.Receive.{told_by, reaction_of, outcome_of, at, against, resting, rest_of, storing, store_of, data_of, inside_of, waiting_of, event_of, receive_of};
 ghost use Rattle.link_receive.specs.declared.Phase.TheVariants.{Rest};
 
 use link_frame::MAX_DATA;
@@ -78,147 +78,129 @@ fn rest(answer: LinkAnswer) -> LinkStep
 }
 
 // A byte at rest.
+#[tactic(auto, unfolding(crate::specs::Receive::rest_of))]
 fn rest_byte(b: u8) -> LinkStep
     ensures { reaction_of result ≡ rest_of b }
 {
-    if b == STX {
-        return LinkStep {
+    match b {
+        STX => LinkStep {
             answer: Ok(LinkAnswer::Send(DLE)),
             state: LinkState {
-                count: 0,
-                check: 0,
                 phase: Phase::Inside(Dle::NotSeen),
+                ..LinkState::at_rest()
             },
-        };
+        },
+        NAK => rest(LinkAnswer::Nothing),
+        _ => rest(LinkAnswer::Send(NAK)),
     }
-    if b == NAK {
-        return rest(LinkAnswer::Nothing);
-    }
-    rest(LinkAnswer::Send(NAK))
 }
 
 // Stores b at the count, where there is room, and gives the state after it.
-fn store(count: usize, check: u8, b: u8, buffer: &mut [u8]) -> Option<LinkState>
-    ensures { storing result buffer.new ≡ store_of count check b buffer.old }
+#[tactic(auto, unfolding(crate::specs::Receive::store_of, crate::specs::Receive::no_room))]
+fn store(state: LinkState, b: u8, buffer: &mut [u8]) -> Option<LinkState>
+    ensures { storing result buffer.new ≡ store_of state.count state.check b buffer.old }
 {
-    if buffer.len() <= count {
+    if buffer.len() <= state.count || MAX_DATA <= state.count {
         return None;
     }
-    if MAX_DATA <= count {
-        return None;
-    }
-    buffer[count] = b;
+    buffer[state.count] = b;
     Some(LinkState {
-        count: count + 1,
-        check,
+        count: state.count + 1,
         phase: Phase::Inside(Dle::NotSeen),
+        ..state
     })
 }
 
 // A data byte inside a block: stored, or NAK where there is no room.
-fn data_byte(count: usize, check: u8, b: u8, buffer: &mut [u8]) -> LinkStep
-    ensures { outcome_of result buffer.new ≡ data_of count check b buffer.old }
+#[tactic(auto, unfolding(crate::specs::Receive::data_of, crate::specs::Receive::after_store))]
+fn data_byte(state: LinkState, b: u8, buffer: &mut [u8]) -> LinkStep
+    ensures { outcome_of result buffer.new ≡ data_of state.count state.check b buffer.old }
 {
-    let Some(state) = store(count, check, b, &mut *buffer) else {
-        return rest(LinkAnswer::Send(NAK));
-    };
-    LinkStep {
-        answer: Ok(LinkAnswer::Nothing),
-        state,
+    match store(state, b, buffer) {
+        Some(state) => LinkStep {
+            answer: Ok(LinkAnswer::Nothing),
+            state,
+        },
+        None => rest(LinkAnswer::Send(NAK)),
     }
 }
 
 // A byte inside a block, already in the check.
-fn inside_byte(dle: Dle, count: usize, check: u8, b: u8, buffer: &mut [u8]) -> LinkStep
-    ensures { outcome_of result buffer.new ≡ inside_of dle count check b buffer.old }
+#[tactic(auto, unfolding(crate::specs::Receive::inside_of))]
+fn inside_byte(dle: Dle, state: LinkState, b: u8, buffer: &mut [u8]) -> LinkStep
+    ensures { outcome_of result buffer.new ≡ inside_of dle state.count state.check b buffer.old }
 {
-    match dle {
-        Dle::NotSeen => {
-            if b == DLE {
-                return LinkStep {
-                    answer: Ok(LinkAnswer::Nothing),
-                    state: LinkState {
-                        count,
-                        check,
-                        phase: Phase::Inside(Dle::Seen),
-                    },
-                };
-            }
-            data_byte(count, check, b, &mut *buffer)
-        }
-        Dle::Seen => {
-            if b == DLE {
-                return data_byte(count, check, b, &mut *buffer);
-            }
-            if b == ETX {
-                return LinkStep {
-                    answer: Ok(LinkAnswer::Nothing),
-                    state: LinkState {
-                        count,
-                        check,
-                        phase: Phase::Waiting,
-                    },
-                };
-            }
-            rest(LinkAnswer::Send(NAK))
-        }
+    match (dle, b) {
+        (Dle::NotSeen, DLE) => LinkStep {
+            answer: Ok(LinkAnswer::Nothing),
+            state: LinkState {
+                phase: Phase::Inside(Dle::Seen),
+                ..state
+            },
+        },
+        (Dle::NotSeen, _) | (Dle::Seen, DLE) => data_byte(state, b, buffer),
+        (Dle::Seen, ETX) => LinkStep {
+            answer: Ok(LinkAnswer::Nothing),
+            state: LinkState {
+                phase: Phase::Waiting,
+                ..state
+            },
+        },
+        (Dle::Seen, _) => rest(LinkAnswer::Send(NAK)),
     }
 }
 
 // The byte after DLE ETX.
-fn waiting_byte(count: usize, check: u8, b: u8) -> LinkStep
-    ensures { reaction_of result ≡ waiting_of count check b }
+#[tactic(auto, unfolding(crate::specs::Receive::waiting_of))]
+fn waiting_byte(state: LinkState, b: u8) -> LinkStep
+    ensures { reaction_of result ≡ waiting_of state.count state.check b }
 {
-    if b == check {
-        return rest(LinkAnswer::Message(count));
+    if b == state.check {
+        rest(LinkAnswer::Message(state.count))
+    } else {
+        rest(LinkAnswer::Send(NAK))
     }
-    rest(LinkAnswer::Send(NAK))
 }
 
-// One event, whatever the count.
+// One event, whatever the count. Every byte inside a block goes into the check.
+#[tactic(auto, unfolding(crate::specs::Receive::event_of, crate::specs::Receive::byte_of, crate::specs::Receive::timer_of))]
 fn take_event(state: LinkState, event: LinkEvent, buffer: &mut [u8]) -> LinkStep
     ensures { outcome_of result buffer.new ≡ event_of event state buffer.old }
 {
-    let count = state.count;
-    let check = state.check;
-    let phase = state.phase;
-    match phase {
-        Phase::Rest => match event {
-            LinkEvent::Byte(b) => rest_byte(b),
-            LinkEvent::Timer => rest(LinkAnswer::Nothing),
-        },
-        Phase::Inside(dle) => match event {
-            LinkEvent::Byte(b) => inside_byte(dle, count, check ^ b, b, &mut *buffer),
-            LinkEvent::Timer => rest(LinkAnswer::Send(NAK)),
-        },
-        Phase::Waiting => match event {
-            LinkEvent::Byte(b) => waiting_byte(count, check, b),
-            LinkEvent::Timer => rest(LinkAnswer::Send(NAK)),
-        },
+    match (state.phase, event) {
+        (Phase::Rest, LinkEvent::Byte(b)) => rest_byte(b),
+        (Phase::Rest, LinkEvent::Timer) => rest(LinkAnswer::Nothing),
+        (Phase::Inside(dle), LinkEvent::Byte(b)) => {
+            let checked = LinkState {
+                check: state.check ^ b,
+                ..state
+            };
+            inside_byte(dle, checked, b, buffer)
+        }
+        (Phase::Waiting, LinkEvent::Byte(b)) => waiting_byte(state, b),
+        (Phase::Inside(_) | Phase::Waiting, LinkEvent::Timer) => rest(LinkAnswer::Send(NAK)),
     }
 }
 
-// A state against its buffer is refused and kept.
-fn refuse(state: LinkState) -> LinkStep
-    ensures { reaction_of result ≡ to (refuses 1) state }
+// Whether a count is against a buffer: beyond its length, or beyond MAX_DATA.
+#[tactic(auto, unfolding(crate::specs::Receive::against))]
+pub fn is_against(count: usize, buffer: &[u8]) -> bool
+    ensures { result ≡ against count buffer.now }
 {
-    LinkStep {
-        answer: Err(Refusal::Setup),
-        state,
-    }
+    buffer.len() < count || MAX_DATA < count
 }
 
 // One event: its answer and the state after it. It writes at most the place of the buffer at the count.
-// Refused with 1, and all as it was: a count beyond the buffer's length or MAX_DATA.
+// Refused with 1, and all as it was: a count against the buffer.
+#[tactic(auto, unfolding(crate::specs::Receive::receive_of))]
 pub fn receive(state: LinkState, event: LinkEvent, buffer: &mut [u8]) -> LinkStep
     ensures { outcome_of result buffer.new ≡ receive_of state event buffer.old }
 {
-    let count = state.count;
-    if buffer.len() < count {
-        return refuse(state);
+    if is_against(state.count, buffer) {
+        return LinkStep {
+            answer: Err(Refusal::Setup),
+            state,
+        };
     }
-    if MAX_DATA < count {
-        return refuse(state);
-    }
-    take_event(state, event, &mut *buffer)
+    take_event(state, event, buffer)
 }

@@ -7,12 +7,13 @@ ghost use Rattle.refusal.specs.Numbers.{number_of};
 ghost use Rattle.refusal.specs.Writing.{given_of, filling_of};
 ghost use Rattle.link_frame.specs.ControlBytes.{STX, ETX, DLE, NAK};
 ghost use Rattle.link_frame.specs.Frame.{max_data};
-ghost use Rattle.link_receive.specs.Receive.{response_of, to, receive_of};
-ghost use Rattle.link_send.specs.Send.{answer_byte, bytes_of, sending, attempts, into, fresh, connection_fails, block_fails, collision, opening_byte, awaiting_byte, relaying, after_half, half_of, fresh_of, opening_of, awaiting_of, receiving_of, turn_of, most, bad_limit, half_against, misset, refusing, reaction_of, outcome_of, send_of};
+ghost use Rattle.link_receive.specs.Receive as half;
+ghost use Rattle.link_receive.specs.Receive.{response_of, receive_of};
+ghost use Rattle.link_send.specs.Send.{answer_byte, bytes_of, sending, into, begun, fresh, connection_fails, block_fails, collision, opening_byte, awaiting_byte, relaying, after_half, half_of, turn_of, bad_limit, half_against, misset, refusing, reaction_of, outcome_of, send_of};
 ghost use Rattle.link_send.specs.Private.Plans.{parts_of, behind, turn_by, taken_by, finished};
 
 use link_frame::{MAX_DATA, control};
-use link_receive::{Dle, LinkAnswer, LinkEvent, LinkState, Phase};
+use link_receive::{Dle, LinkAnswer, LinkEvent, LinkState, LinkStep, Phase};
 use refusal::Refusal;
 
 // Numbers of attempts: to connect in one attempt to send the block, and to send the block.
@@ -20,6 +21,13 @@ use refusal::Refusal;
 pub struct Attempts {
     pub connections: usize,
     pub blocks: usize,
+}
+
+impl Attempts {
+    const NONE: Self = Self {
+        connections: 0,
+        blocks: 0,
+    };
 }
 
 // Which end of a cable yields where both have opened: the low one.
@@ -81,30 +89,28 @@ impl Sender {
                 connections,
                 blocks,
             },
-            failed: Attempts {
-                connections: 0,
-                blocks: 0,
-            },
+            failed: Attempts::NONE,
             priority,
             phase: SendPhase::Fresh,
         }
     }
 
     // The sender in another phase, with other attempts failed.
-    fn into(self, connections: usize, blocks: usize, phase: SendPhase) -> Self
-        ensures { result ≡ into self (attempts connections blocks) phase }
+    fn into(self, failed: Attempts, phase: SendPhase) -> Self
+        ensures { result ≡ into self failed phase }
     {
-        let limits = self.limits;
-        let priority = self.priority;
         Self {
-            limits,
-            failed: Attempts {
-                connections,
-                blocks,
-            },
-            priority,
+            failed,
             phase,
+            ..self
         }
+    }
+
+    // The sender with an opening that waits for its answer, and no attempt failed.
+    fn begun(self) -> Self
+        ensures { result ≡ begun self }
+    {
+        self.into(Attempts::NONE, SendPhase::Opening)
     }
 }
 
@@ -160,58 +166,62 @@ fn without_message(going: Going, next: Sender) -> Plan
 }
 
 // An attempt to connect has failed.
+#[tactic(auto, unfolding(crate::specs::Send::connection_fails))]
 fn connection_fails(state: Sender) -> Plan
-    requires { state.failed.connections ≤ most }
     ensures { turn_by result ≡ connection_fails state }
 {
-    let limits = state.limits;
-    let failed = state.failed;
-    if failed.connections + 1 < limits.connections {
-        return without_message(
-            Going::Opening,
-            state.into(failed.connections + 1, failed.blocks, SendPhase::Opening),
-        );
+    let most = state.limits.connections;
+    // How many attempts were left, the one that has failed among them.
+    if 1 < most.saturating_sub(state.failed.connections) {
+        let failed = Attempts {
+            connections: state.failed.connections + 1,
+            ..state.failed
+        };
+        without_message(Going::Opening, state.into(failed, SendPhase::Opening))
+    } else {
+        let failed = Attempts {
+            connections: most,
+            ..state.failed
+        };
+        without_message(Going::Nothing, state.into(failed, SendPhase::GaveUp))
     }
-    without_message(
-        Going::Nothing,
-        state.into(limits.connections, failed.blocks, SendPhase::GaveUp),
-    )
 }
 
 // An attempt to send the block has failed.
+#[tactic(auto, unfolding(crate::specs::Send::block_fails))]
 fn block_fails(state: Sender) -> Plan
-    requires { state.failed.blocks ≤ most }
     ensures { turn_by result ≡ block_fails state }
 {
-    let limits = state.limits;
-    let failed = state.failed;
-    if failed.blocks + 1 < limits.blocks {
-        return without_message(
-            Going::Opening,
-            state.into(0, failed.blocks + 1, SendPhase::Opening),
-        );
+    let most = state.limits.blocks;
+    // How many attempts were left, the one that has failed among them.
+    if 1 < most.saturating_sub(state.failed.blocks) {
+        let failed = Attempts {
+            connections: 0,
+            blocks: state.failed.blocks + 1,
+        };
+        without_message(Going::Opening, state.into(failed, SendPhase::Opening))
+    } else {
+        let failed = Attempts {
+            blocks: most,
+            ..state.failed
+        };
+        without_message(Going::Nothing, state.into(failed, SendPhase::GaveUp))
     }
-    without_message(
-        Going::Nothing,
-        state.into(failed.connections, limits.blocks, SendPhase::GaveUp),
-    )
 }
 
 // Both ends have opened.
 fn collide(state: Sender) -> Plan
     ensures { turn_by result ≡ collision state.priority state }
 {
-    let priority = state.priority;
-    match priority {
+    match state.priority {
         Priority::Low => {
             let half = LinkState {
-                count: 0,
-                check: 0,
                 phase: Phase::Inside(Dle::NotSeen),
+                ..LinkState::at_rest()
             };
             without_message(
                 Going::Answer(Sender::DLE),
-                state.into(0, 0, SendPhase::Receiving(half)),
+                state.into(Attempts::NONE, SendPhase::Receiving(half)),
             )
         }
         Priority::High => without_message(Going::Nothing, state),
@@ -219,36 +229,26 @@ fn collide(state: Sender) -> Plan
 }
 
 // A byte while the answer to an opening is waited for.
+#[tactic(auto, unfolding(crate::specs::Send::opening_byte))]
 fn opening_byte(state: Sender, b: u8) -> Plan
-    requires { state.failed.connections ≤ most }
     ensures { turn_by result ≡ opening_byte state b }
 {
-    if b == Sender::DLE {
-        let failed = state.failed;
-        return without_message(
-            Going::Block,
-            state.into(failed.connections, failed.blocks, SendPhase::Awaiting),
-        );
+    match b {
+        Sender::DLE => without_message(Going::Block, state.into(state.failed, SendPhase::Awaiting)),
+        Sender::STX => collide(state),
+        _ => connection_fails(state),
     }
-    if b == Sender::STX {
-        return collide(state);
-    }
-    connection_fails(state)
 }
 
 // A byte while the answer to the block is waited for.
+#[tactic(auto, unfolding(crate::specs::Send::awaiting_byte))]
 fn awaiting_byte(state: Sender, b: u8) -> Plan
-    requires { state.failed.blocks ≤ most }
     ensures { turn_by result ≡ awaiting_byte state b }
 {
-    if b == Sender::DLE {
-        let failed = state.failed;
-        return without_message(
-            Going::Nothing,
-            state.into(failed.connections, failed.blocks, SendPhase::Sent),
-        );
+    match b {
+        Sender::DLE => without_message(Going::Nothing, state.into(state.failed, SendPhase::Sent)),
+        _ => block_fails(state),
     }
-    block_fails(state)
 }
 
 // Nothing goes out, or an opening.
@@ -256,9 +256,10 @@ fn silent(opens: bool) -> Going
     ensures { parts_of result ≡ behind opens }
 {
     if opens {
-        return Going::Opening;
+        Going::Opening
+    } else {
+        Going::Nothing
     }
-    Going::Nothing
 }
 
 // An answer byte goes out, and maybe an opening behind it.
@@ -266,9 +267,10 @@ fn answering(b: u8, opens: bool) -> Going
     ensures { parts_of result ≡ answer_byte b ∷ behind opens }
 {
     if opens {
-        return Going::AnswerThenOpening(b);
+        Going::AnswerThenOpening(b)
+    } else {
+        Going::Answer(b)
     }
-    Going::Answer(b)
 }
 
 // The half's answer goes out, and maybe an opening behind it.
@@ -287,31 +289,17 @@ fn relay(answer: Result<LinkAnswer, Refusal>, opens: bool, next: Sender) -> Plan
 }
 
 // What follows the half's step, in a yield.
-fn after_half(state: Sender, answer: Result<LinkAnswer, Refusal>, half: LinkState) -> Plan
-    ensures { turn_by result ≡ after_half state (to (response_of answer) half) }
+#[tactic(auto, unfolding(crate::specs::Send::after_half))]
+fn after_half(state: Sender, step: LinkStep) -> Plan
+    ensures { turn_by result ≡ after_half state (half.reaction_of step) }
 {
-    let failed = state.failed;
-    let phase = half.phase;
-    match phase {
-        Phase::Rest => relay(answer, true, state.into(0, 0, SendPhase::Opening)),
-        Phase::Inside(_) => relay(
-            answer,
-            false,
-            state.into(
-                failed.connections,
-                failed.blocks,
-                SendPhase::Receiving(half),
-            ),
-        ),
-        Phase::Waiting => relay(
-            answer,
-            false,
-            state.into(
-                failed.connections,
-                failed.blocks,
-                SendPhase::Receiving(half),
-            ),
-        ),
+    let half = step.state;
+    match half.phase {
+        Phase::Rest => relay(step.answer, true, state.begun()),
+        Phase::Inside(_) | Phase::Waiting => {
+            let receiving = state.into(state.failed, SendPhase::Receiving(half));
+            relay(step.answer, false, receiving)
+        }
     }
 }
 
@@ -319,160 +307,88 @@ fn after_half(state: Sender, answer: Result<LinkAnswer, Refusal>, half: LinkStat
 fn step_half(state: Sender, half: LinkState, event: LinkEvent, buffer: &mut [u8]) -> Plan
     ensures { taken_by result buffer.new ≡ half_of state (receive_of half event buffer.old) }
 {
-    let step = link_receive::receive(half, event, &mut *buffer);
-    let answer = step.answer;
-    let next = step.state;
-    after_half(state, answer, next)
+    after_half(state, link_receive::receive(half, event, buffer))
 }
 
-// An event at a fresh sender.
-fn at_fresh(event: SendEvent, state: Sender) -> Plan
-    ensures { turn_by result ≡ fresh_of event state }
-{
-    match event {
-        SendEvent::Start => without_message(Going::Opening, state.into(0, 0, SendPhase::Opening)),
-        SendEvent::Byte(_) => without_message(Going::Nothing, state),
-        SendEvent::Timer => without_message(Going::Nothing, state),
-    }
-}
-
-// An event while the answer to an opening is waited for.
-fn at_opening(event: SendEvent, state: Sender) -> Plan
-    requires { state.failed.connections ≤ most }
-    ensures { turn_by result ≡ opening_of event state }
-{
-    match event {
-        SendEvent::Start => without_message(Going::Nothing, state),
-        SendEvent::Byte(b) => opening_byte(state, b),
-        SendEvent::Timer => connection_fails(state),
-    }
-}
-
-// An event while the answer to the block is waited for.
-fn at_awaiting(event: SendEvent, state: Sender) -> Plan
-    requires { state.failed.blocks ≤ most }
-    ensures { turn_by result ≡ awaiting_of event state }
-{
-    match event {
-        SendEvent::Start => without_message(Going::Nothing, state),
-        SendEvent::Byte(b) => awaiting_byte(state, b),
-        SendEvent::Timer => block_fails(state),
-    }
-}
-
-// An event in a yield.
-fn at_receiving(event: SendEvent, half: LinkState, state: Sender, buffer: &mut [u8]) -> Plan
-    ensures { taken_by result buffer.new ≡ receiving_of event half state buffer.old }
-{
-    match event {
-        SendEvent::Start => without_message(Going::Nothing, state),
-        SendEvent::Byte(b) => step_half(state, half, LinkEvent::Byte(b), &mut *buffer),
-        SendEvent::Timer => step_half(state, half, LinkEvent::Timer, &mut *buffer),
-    }
-}
-
-// One event in each phase, before anything is written.
+// One event in each phase, before anything is written. What is not named sends nothing, and the state is the same.
+#[tactic(auto, unfolding(crate::specs::Send::turn_of, crate::specs::Send::fresh_of, crate::specs::Send::opening_of, crate::specs::Send::awaiting_of, crate::specs::Send::receiving_of))]
 fn take_event(state: Sender, event: SendEvent, buffer: &mut [u8]) -> Plan
-    requires { (state.failed.connections ≤ most) × (state.failed.blocks ≤ most) }
     ensures { taken_by result buffer.new ≡ turn_of state event buffer.old }
 {
-    let phase = state.phase;
-    match phase {
-        SendPhase::Fresh => at_fresh(event, state),
-        SendPhase::Opening => at_opening(event, state),
-        SendPhase::Awaiting => at_awaiting(event, state),
-        SendPhase::Receiving(half) => at_receiving(event, half, state, &mut *buffer),
-        SendPhase::Sent => without_message(Going::Nothing, state),
-        SendPhase::GaveUp => without_message(Going::Nothing, state),
+    match (state.phase, event) {
+        (SendPhase::Fresh, SendEvent::Start) => without_message(Going::Opening, state.begun()),
+        (SendPhase::Opening, SendEvent::Byte(b)) => opening_byte(state, b),
+        (SendPhase::Opening, SendEvent::Timer) => connection_fails(state),
+        (SendPhase::Awaiting, SendEvent::Byte(b)) => awaiting_byte(state, b),
+        (SendPhase::Awaiting, SendEvent::Timer) => block_fails(state),
+        (SendPhase::Receiving(half), SendEvent::Byte(b)) => {
+            step_half(state, half, LinkEvent::Byte(b), buffer)
+        }
+        (SendPhase::Receiving(half), SendEvent::Timer) => {
+            step_half(state, half, LinkEvent::Timer, buffer)
+        }
+        _ => without_message(Going::Nothing, state),
     }
 }
 
 // Whether a limit is not LEAST to MOST.
+#[tactic(auto, unfolding(crate::specs::Send::bad_limit))]
 fn is_bad_limit(n: usize) -> bool
     ensures { result ≡ bad_limit n }
 {
-    if n < Sender::LEAST {
-        return true;
-    }
-    Sender::MOST < n
+    n < Sender::LEAST || Sender::MOST < n
 }
 
-// Whether the half, while there is one, is against its buffer: its count is beyond the buffer's length or MAX_DATA. The half
-// would refuse that too, but its 1 comes before the 12 for the data, and so before the half is called.
+// Whether the half, while there is one, is against its buffer. The half would refuse that too, but its 1 comes before the 12
+// for the data, and so before the half is called.
 fn is_half_against(phase: SendPhase, buffer: &[u8]) -> bool
     ensures { result ≡ half_against phase buffer.now }
 {
     match phase {
-        SendPhase::Fresh => false,
-        SendPhase::Opening => false,
-        SendPhase::Awaiting => false,
-        SendPhase::Receiving(half) => {
-            if buffer.len() < half.count {
-                return true;
-            }
-            MAX_DATA < half.count
-        }
-        SendPhase::Sent => false,
-        SendPhase::GaveUp => false,
+        SendPhase::Receiving(half) => link_receive::is_against(half.count, buffer),
+        SendPhase::Fresh
+        | SendPhase::Opening
+        | SendPhase::Awaiting
+        | SendPhase::Sent
+        | SendPhase::GaveUp => false,
     }
 }
 
 // Whether the sender is refused with 1.
+#[tactic(auto, unfolding(crate::specs::Send::misset))]
 fn is_misset(state: Sender, buffer: &[u8]) -> bool
     ensures { result ≡ misset state buffer.now }
 {
-    let limits = state.limits;
-    let failed = state.failed;
-    if is_bad_limit(limits.connections) {
-        return true;
-    }
-    if is_bad_limit(limits.blocks) {
-        return true;
-    }
-    if limits.connections < failed.connections {
-        return true;
-    }
-    if limits.blocks < failed.blocks {
-        return true;
-    }
-    let phase = state.phase;
-    is_half_against(phase, buffer)
+    is_bad_limit(state.limits.connections)
+        || is_bad_limit(state.limits.blocks)
+        || state.limits.connections < state.failed.connections
+        || state.limits.blocks < state.failed.blocks
+        || is_half_against(state.phase, buffer)
 }
 
-// Writes one byte.
-fn write_one(b: u8, out: &mut [u8]) -> Result<usize, Refusal>
-    ensures { filling_of result out.new ≡ fitted (b ∷ []) out.old }
+// Writes bytes to the first places of out, where they have room.
+fn write_bytes(bytes: &[u8], out: &mut [u8]) -> Result<usize, Refusal>
+    ensures { filling_of result out.new ≡ fitted bytes.now out.old }
 {
-    if out.len() < 1 {
+    if out.len() < bytes.len() {
         return Err(Refusal::OutputShort);
     }
-    out[0] = b;
-    Ok(1)
-}
-
-// Writes two bytes.
-fn write_two(first: u8, second: u8, out: &mut [u8]) -> Result<usize, Refusal>
-    ensures { filling_of result out.new ≡ fitted (first ∷ second ∷ []) out.old }
-{
-    if out.len() < 2 {
-        return Err(Refusal::OutputShort);
-    }
-    out[0] = first;
-    out[1] = second;
-    Ok(2)
+    places::put(bytes, out, 0);
+    Ok(bytes.len())
 }
 
 // Writes what goes out.
+#[tactic(auto, unfolding(crate::specs::Send::bytes_of, crate::specs::Send::part_bytes))]
 fn write(going: Going, src: &[u8], out: &mut [u8]) -> Result<usize, Refusal>
     requires { length src.now ≤ max_data }
     ensures { filling_of result out.new ≡ fitted (bytes_of src.now (parts_of going)) out.old }
 {
     match going {
-        Going::Nothing => Ok(0),
-        Going::Opening => write_one(Sender::STX, &mut *out),
-        Going::Answer(b) => write_one(b, &mut *out),
-        Going::AnswerThenOpening(b) => write_two(b, Sender::STX, &mut *out),
-        Going::Block => link_frame::frame(src, &mut *out),
+        Going::Nothing => write_bytes(&[], out),
+        Going::Opening => write_bytes(&[Sender::STX], out),
+        Going::Answer(b) => write_bytes(&[b], out),
+        Going::AnswerThenOpening(b) => write_bytes(&[b, Sender::STX], out),
+        Going::Block => link_frame::frame(src, out),
     }
 }
 
@@ -516,14 +432,13 @@ pub fn send(
 ) -> SendStep
     ensures { outcome_of result buffer.new out.new ≡ (send_of state event src.now buffer.old out.old).outcome }
 {
-    if is_misset(state, &*buffer) {
+    if is_misset(state, buffer) {
         return refuse(Refusal::Setup, state);
     }
     if MAX_DATA < src.len() {
         return refuse(Refusal::TooLong, state);
     }
-    let planned = take_event(state, event, &mut *buffer);
-    let going = planned.going;
-    let written = write(going, src, &mut *out);
+    let planned = take_event(state, event, buffer);
+    let written = write(planned.going, src, out);
     finish(written, planned, state)
 }

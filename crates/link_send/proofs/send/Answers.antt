@@ -1,7 +1,6 @@
 -- `send`: the two refusals, or the turn with what it writes.
 -- Assumes nothing.
 use mathlib.Core.Path.{sym, ◌∙◌}
-use native.Mathlib.Omega.{arith}
 use Rattle.link_send.proofs.Room.{send_misset, send_long, send_turn}
 use Rattle.link_send.proofs.Refusals.{sound}
 use Rattle.link_send.proofs.send.Goals as goal
@@ -13,12 +12,6 @@ pub returns-then-src-gt-MAX_DATA : goal.returns-then-src-gt-MAX_DATA
 returns-then-src-gt-MAX_DATA c =
     let test = c in
     send_long _ _ _ _ _ (sym test.is_misset.ensures ∙ test.if-is_misset.false) c.if-src-gt-MAX_DATA.true c.refuse-then-src-gt-MAX_DATA.ensures
-
-pub take_event-planned-requires : goal.take_event-planned-requires
-take_event-planned-requires c =
-    let test = c in
-    let good = sound _ _ (sym test.is_misset.ensures ∙ test.if-is_misset.false) in
-    (omega (arith, good.connections.1, good.failed_connections), omega (arith, good.blocks.1, good.failed_blocks))
 
 pub returns : goal.returns
 returns c =

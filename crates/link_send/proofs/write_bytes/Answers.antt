@@ -1,0 +1,11 @@
+-- `write_bytes`: without room, and with it.
+-- Assumes nothing.
+use mathlib.Core.Path.{sym}
+use Rattle.base.proofs.Filling.{fitted_short, fitted_stored}
+use Rattle.link_send.proofs.write_bytes.Goals as goal
+
+pub returns-then-out-bytes : goal.returns-then-out-bytes
+returns-then-out-bytes c = sym (fitted_short _ _ c.if-out-bytes.true)
+
+pub returns : goal.returns
+returns c = rw c.put.ensures (fitted_stored _ _ c.if-out-bytes.false)
