@@ -1,6 +1,6 @@
 -- What a call that writes gives back, and what it leaves in its output.
 -- Assumes nothing.
-use Rattle.std.specs.Prelude.{ℕ, List, Result, Ok, Err, ltb, length}
+use Rattle.std.specs.Prelude.{ℕ, List, Option, Some, None, Result, Ok, Err, ltb, length}
 use Rattle.base.specs.Choice.{pick}
 use Rattle.base.specs.Places.{placed}
 
@@ -30,3 +30,8 @@ written bytes out = record { given = filled (length bytes); output = placed byte
 -- 11 for an output with fewer places than the bytes need; else the bytes are written
 unfoldable pub fitted : List ℕ → List ℕ → Filling
 fitted bytes out = pick (ltb (length out) (length bytes)) (denied 11 out) (written bytes out)
+
+-- the length that was filled, or 11 where there was no room; and the output
+abbrev pub fitting_of : Option ℕ → List ℕ → Filling
+fitting_of (Some n) out = record { given = filled n; output = out }
+fitting_of None out = denied 11 out

@@ -46,11 +46,7 @@ pub fn is_position(z: i32) -> bool
 fn write_bytes(bytes: &[u8], out: &mut [u8]) -> Result<usize, GateRefusal>
     ensures { filling_of result out.new ≡ fitted bytes.now out.old }
 {
-    if out.len() < bytes.len() {
-        return Err(GateRefusal::OutputShort);
-    }
-    places::put(bytes, out, 0);
-    Ok(bytes.len())
+    places::fit(bytes, out).ok_or(GateRefusal::OutputShort)
 }
 
 // The bytes of an answer in the first places of out, and their number; the other places keep their values.

@@ -144,12 +144,9 @@ pub fn operate(registers: GateRegisters, src: &[u8]) -> Operated
 
 // The operating command with these two bytes, whatever they are, in the first places of out, and its length; the other
 // places keep their values. Refused, and out as it was: 11 for an output that is too short.
+#[tactic(auto, unfolding(crate::specs::Commands::command_writing))]
 pub fn write_command(command: u8, function: u8, out: &mut [u8]) -> Result<usize, GateRefusal>
     ensures { filling_of result out.new ≡ command_writing command function out.old }
 {
-    if out.len() < 3 {
-        return Err(GateRefusal::OutputShort);
-    }
-    places::put(&[OPERATE, command, function], out, 0);
-    Ok(3)
+    places::fit(&[OPERATE, command, function], out).ok_or(GateRefusal::OutputShort)
 }

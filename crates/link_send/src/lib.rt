@@ -370,11 +370,7 @@ fn is_misset(state: Sender, buffer: &[u8]) -> bool
 fn write_bytes(bytes: &[u8], out: &mut [u8]) -> Result<usize, Refusal>
     ensures { filling_of result out.new ≡ fitted bytes.now out.old }
 {
-    if out.len() < bytes.len() {
-        return Err(Refusal::OutputShort);
-    }
-    places::put(bytes, out, 0);
-    Ok(bytes.len())
+    places::fit(bytes, out).ok_or(Refusal::OutputShort)
 }
 
 // Writes what goes out.

@@ -2,17 +2,10 @@
 -- Assumes nothing.
 use mathlib.Core.Path.{◌≡◌, refl, ap}
 use mathlib.Core.List.{List, [], ◌∷◌}
-use Prim.Native.Nat.{ℕ, zero, suc, ◌+◌, ◌≤◌, ◌<◌}
-use native.Mathlib.Nat.{add-suc}
-use native.Mathlib.Numerals.{add-one}
+use Prim.Native.Nat.{ℕ, zero, suc, ◌≤◌}
 use native.Mathlib.Omega.{arith}
-use lib.ListN.{length, get_or, drop, set}
-use lib.Seq.{sets, drop-cons}
-
-module _ (bytes out : List ℕ) (at i : ℕ) {whole : List ℕ} where
-  pub copy_step : i < length bytes → sets out (at + i) (drop i bytes) ≡ whole →
-      sets (set out (at + i) (get_or bytes i 0)) (at + (i + 1)) (drop (i + 1) bytes) ≡ whole
-  copy_step h e = rw (add-one, add-suc) (rw (drop-cons bytes i 0 h) at e)
+use lib.ListN.{length, set}
+use lib.Seq.{sets}
 
 set_beyond : (l : List ℕ) (i v : ℕ) → length l ≤ i → set l i v ≡ l
 set_beyond [] i v h = refl
