@@ -38,13 +38,10 @@ pub struct Reply {
 fn is_route(route: &[u8]) -> bool
     ensures { result ≡ good_route route.now }
 {
-    if route.len() < 1 {
-        return false;
+    match route.len() {
+        1..=MAX_ROUTE => mop_block::distinct_addresses(route),
+        _ => false,
     }
-    if MAX_ROUTE < route.len() {
-        return false;
-    }
-    mop_block::distinct_addresses(route)
 }
 
 // Room for the entries of the longest block of a request: a route, and a 00.
@@ -58,12 +55,13 @@ fn request_header(route: &[u8], block: &mut [u8]) -> Header
     ensures { head_of result block.new ≡ request_head route.now }
 {
     let n = route.len();
-    places::put(route, &mut *block, 0);
+    places::put(route, block, 0);
     if n <= 3 {
-        return Header::new(Function::Request, NEW_CONTROL, Form::Standard, 4);
+        Header::new(Function::Request, NEW_CONTROL, Form::Standard, 4)
+    } else {
+        let count = (n + 1) as u8;
+        Header::new(Function::Request, NEW_CONTROL, Form::Extended(MARK), count)
     }
-    let count = (n + 1) as u8;
-    Header::new(Function::Request, NEW_CONTROL, Form::Extended(MARK), count)
 }
 
 // Room for the longest body of a request: six bytes, and the values of the longest run.
@@ -101,17 +99,14 @@ pub fn write_request(
     if !is_route(route) {
         return Err(Refusal::Block);
     }
-    if MAX_RUN < rcount {
-        return Err(Refusal::TooLong);
-    }
-    if MAX_RUN < values.len() {
+    if MAX_RUN < rcount || MAX_RUN < values.len() {
         return Err(Refusal::TooLong);
     }
     let mut block = [0u8; REQUEST_BLOCK];
     let header = request_header(route, &mut block);
     let body = request_body(rstart, rcount as u8, wstart, values);
     let n = 6 + 2 * values.len();
-    mop_header::write(header, &block, &body[0..n], &mut *out)
+    mop_header::write(header, &block, &body[..n], out)
 }
 
 // The stations of a header's block, in order.
@@ -120,17 +115,13 @@ fn route_of(header: Header, block: &[u8]) -> [u8; MAX_ROUTE]
     ensures { result ≡ route_places (stations (head_of header block.now).block) }
 {
     let mut route = [0u8; MAX_ROUTE];
-    let n = header.entry_count();
     let mut place: usize = 0;
-    let mut i: usize = 0;
-    while i < n {
+    for i in 0..header.entry_count() {
         let a = header.entry(block, i);
-        i += 1;
-        if a == 0 {
-            continue;
+        if a != 0 {
+            route[place] = a;
+            place += 1;
         }
-        route[place] = a;
-        place += 1;
     }
     route
 }
@@ -139,12 +130,7 @@ fn route_of(header: Header, block: &[u8]) -> [u8; MAX_ROUTE]
 fn is_counted(body: &[u8]) -> bool
     ensures { result ≡ eqb (length body.now) (3 + 2 * read_count body.now) }
 {
-    let n = body.len();
-    if n < 3 {
-        return false;
-    }
-    let count = body[2];
-    n == 3 + 2 * count as usize
+    3 <= body.len() && body.len() == 3 + 2 * body[2] as usize
 }
 
 // What an accepted reply says.

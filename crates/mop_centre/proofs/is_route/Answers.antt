@@ -5,11 +5,11 @@ use native.Mathlib.Omega.{arith}
 use Rattle.mop_centre.proofs.Routes.{no_station, too_many, by_addresses}
 use Rattle.mop_centre.proofs.is_route.Goals as goal
 
-pub returns-then-route-lt1 : goal.returns-then-route-lt1
-returns-then-route-lt1 c = sym (no_station _ c.if-route-lt1.true)
+pub returns-in-1-to-31 : goal.returns-in-1-to-31
+returns-in-1-to-31 c = c.distinct_addresses.ensures ∙ sym (by_addresses c.args.route.now (omega arith) (omega arith))
 
-pub returns-then-route-gt-MAX_ROUTE : goal.returns-then-route-gt-MAX_ROUTE
-returns-then-route-gt-MAX_ROUTE c = sym (too_many _ c.if-route-gt-MAX_ROUTE.true)
+pub returns-in_default : goal.returns-in_default
+returns-in_default c = sym (no_station c.args.route.now (omega arith))
 
-pub returns : goal.returns
-returns c = c.distinct_addresses.ensures ∙ sym (by_addresses _ (omega arith) (omega arith))
+pub returns-in_default-2 : goal.returns-in_default-2
+returns-in_default-2 c = sym (too_many c.args.route.now (omega arith))

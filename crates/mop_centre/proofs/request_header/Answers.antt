@@ -21,12 +21,12 @@ returns-then-n-le3 c =
     ∙ ap (head Request new_control Standard) (ap (entries 4) block ∙ block_filled route 4 (omega arith) (omega arith))
     ∙ sym (standard_head route (omega arith))
 
-pub returns : goal.returns
-returns c =
+pub returns-else-n-le3 : goal.returns-else-n-le3
+returns-else-n-le3 c =
     let route = c.args.route.now in
     let n = length route in
     let one : (n + 1) - n ≡ 1 = omega arith in
     let block = c.put.ensures ∙ ap (λ (b : List ℕ). sets b 0 route) c.requires.block_value in
-    c.new-2.ensures _
+    c.new-else-n-le3.ensures _
     ∙ ap (head Request new_control (Extended 0xEF)) (ap (entries (n + 1)) block ∙ block_filled route (n + 1) (omega arith) (omega arith) ∙ ap (λ (k : ℕ). route ++ zeros k) one)
     ∙ sym (extended_head route (omega arith))
