@@ -8,7 +8,7 @@ ghost use Rattle.c_net.specs.Net.{ending_number, ran, dry_run_call};
 use net_hop::JourneyEnd;
 use refusal::{Numbered, Refusal};
 
-// The number of an ending.
+// The number of an ending, as C has it.
 fn ending_number(end: JourneyEnd) -> u32
     ensures { result ≡ ending_number (ending_of end) }
 {

@@ -61,7 +61,7 @@ pub fn places_of(addresses: &[u8]) -> [u8; BYTES]
     places
 }
 
-// The place of the station with an address, by a table of places.
+// The place of the station with an address, by a table of places. The table itself keeps 0 for none, as its public contract says.
 fn place_at(places: &[u8; BYTES], address: u8) -> Option<usize>
     ensures { MatchOption result (get_or places.now address 0 ≡ 0) (λ place. get_or places.now address 0 ≡ suc place) }
 {

@@ -149,7 +149,8 @@ struct Turn {
 
 // A leg of a journey, told from a place on: a line for each transmission. Where the journey ends the last line follows, and the
 // text ends before the place given back; where a destination answers the leg stops. What is behind the loop is never told, since
-// no journey has more transmissions.
+// no journey has more transmissions. `walk` of net_dry_run is a loop of its own: shared, it would need a closure with a contract
+// for the line of each transmission.
 fn write_leg(
     first: Header,
     block: &[u8],
