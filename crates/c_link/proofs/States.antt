@@ -1,14 +1,13 @@
 -- The numbers of an event and of a state: the tests in turn, and that a refusal leaves the state.
 -- Assumes nothing.
 use mathlib.Core.Path.{◌≡◌, refl, sym, ap}
-use mathlib.Core.Bool.{Bool, true, false, ◌&&◌, and-false, and-eq-true_iff, or-true}
+use mathlib.Core.Bool.{Bool, true, false, ◌&&◌, and-false, and-eq-true_iff}
 use mathlib.Core.List.{List, [], ◌∷◌}
 use Prim.Native.Nat.{ℕ, zero, suc, ◌≤◌, ◌<◌}
 use native.Mathlib.Omega.{arith}
-use borrow.Author.Tests.{eqb-true, eq-eqb, ne_eqb, leb-true, le-leb, lt-leb, lt-ltb}
-use lib.Dec.{eqb, leb, ltb}
+use borrow.Author.Tests.{eqb-true, eq-eqb, leb-true, le-leb, lt-leb}
+use lib.Dec.{eqb, leb}
 use lib.ListN.{length, get_or}
-use Rattle.link_frame.specs.Frame.{max_data}
 use Rattle.link_receive.specs.Receive.{against, receive_of}
 use Rattle.c_answer.specs.Answer.{refused}
 use Rattle.c_link.specs.Link.{dle_at, phase_number, phase_at, is_state, state_words, state_at, is_event, event_at, received, received_by, receive_call}
@@ -26,40 +25,23 @@ state_parts words g =
     let q = (and-eq-true_iff (eqb (length words) 3) (leb (get_or words 0 0) 3)).0 p.0 in
     record { three = eqb-true (length words) 3 q.0; phase = leb-true (get_or words 0 0) 3 q.1; check = leb-true (get_or words 2 0) 255 p.1 }
 
+pub three_long : (words : List ℕ) → is_state words ≡ true → length words ≡ 3
+three_long words is = (state_parts words is).three
+
 -- the call, by these tests
 module _ (words : List ℕ) (event : ℕ) (buf : List ℕ) where
   pub no_event : 256 < event → receive_call words event buf ≡ received (refused 1) words buf
   unfolding receive_call is_event
   no_event h = rw (lt-leb event 256 h)
 
-  no_state : is_state words ≡ false → receive_call words event buf ≡ received (refused 1) words buf
+  pub no_state : is_state words ≡ false → receive_call words event buf ≡ received (refused 1) words buf
   unfolding receive_call
   no_state h = rw (h, and-false (is_event event))
 
-  pub not_three : (length words ≡ 3 → ⊥) → receive_call words event buf ≡ received (refused 1) words buf
-  unfolding is_state
-  not_three h = no_state (rw (ne_eqb (length words) 3 h))
-
-  pub bad_phase : 3 < get_or words 0 0 → receive_call words event buf ≡ received (refused 1) words buf
-  unfolding is_state
-  bad_phase h = no_state (rw (lt-leb (get_or words 0 0) 3 h, and-false (eqb (length words) 3)))
-
-  pub bad_check : 255 < get_or words 2 0 → receive_call words event buf ≡ received (refused 1) words buf
-  unfolding is_state
-  bad_check h = no_state (rw (lt-leb (get_or words 2 0) 255 h, and-false (eqb (length words) 3 && leb (get_or words 0 0) 3)))
-
   -- a state against its buffer
-  refused_against : against (get_or words 1 0) buf ≡ true → receive_call words event buf ≡ received (refused 1) words buf
+  pub refused_against : against (get_or words 1 0) buf ≡ true → receive_call words event buf ≡ received (refused 1) words buf
   unfolding receive_call
   refused_against h = rw (h, and-false (is_event event && is_state words))
-
-  pub over_buffer : length buf < get_or words 1 0 → receive_call words event buf ≡ received (refused 1) words buf
-  unfolding against
-  over_buffer h = refused_against (rw (lt-ltb (length buf) (get_or words 1 0) h))
-
-  pub over_limit : max_data < get_or words 1 0 → receive_call words event buf ≡ received (refused 1) words buf
-  unfolding against
-  over_limit h = refused_against (rw (lt-ltb max_data (get_or words 1 0) h, or-true (ltb (length buf) (get_or words 1 0))))
 
 pub is_state_lem : (words : List ℕ) → length words ≡ 3 → get_or words 0 0 ≤ 3 → get_or words 2 0 ≤ 255 → is_state words ≡ true
 unfolding is_state

@@ -8,7 +8,6 @@ ghost use Rattle.c_answer.specs.Answer.{written};
 ghost use Rattle.c_link.specs.Link.{frame_call, dle_at, phase_number, phase_at, state_words, state_at, is_state, event_at, of_response, received, received_by, receive_call};
 ghost use Rattle.c_link.specs.Private.Small.{SmallResponse};
 
-use link_frame::MAX_DATA;
 use link_receive::{Dle, LinkAnswer, LinkEvent, LinkState, Phase};
 use refusal::Refusal;
 
@@ -16,30 +15,27 @@ use refusal::Refusal;
 pub fn hanraquin_frame(src: &[u8], out: &mut [u8]) -> u64
     ensures { written result out.new ≡ frame_call src.now out.old }
 {
-    c_answer::of_writing(link_frame::frame(src, &mut *out))
+    c_answer::of_writing(link_frame::frame(src, out))
 }
 
 // Whether a DLE was seen, in a phase inside a block.
+#[tactic(auto, unfolding(crate::specs::Link::dle_at))]
 fn dle_at(n: u64) -> Dle
     ensures { result ≡ dle_at n }
 {
-    if n == 2 {
-        return Dle::Seen;
-    }
-    Dle::NotSeen
+    if n == 2 { Dle::Seen } else { Dle::NotSeen }
 }
 
 // The phase with a number.
+#[tactic(auto, unfolding(crate::specs::Link::phase_at))]
 pub fn phase_at(n: u64) -> Phase
     ensures { result ≡ phase_at n }
 {
-    if n == 0 {
-        return Phase::Rest;
+    match n {
+        0 => Phase::Rest,
+        3 => Phase::Waiting,
+        _ => Phase::Inside(dle_at(n)),
     }
-    if n == 3 {
-        return Phase::Waiting;
-    }
-    Phase::Inside(dle_at(n))
 }
 
 // The number of a phase.
@@ -48,10 +44,8 @@ pub fn phase_number(phase: Phase) -> u64
 {
     match phase {
         Phase::Rest => 0,
-        Phase::Inside(dle) => match dle {
-            Dle::NotSeen => 1,
-            Dle::Seen => 2,
-        },
+        Phase::Inside(Dle::NotSeen) => 1,
+        Phase::Inside(Dle::Seen) => 2,
         Phase::Waiting => 3,
     }
 }
@@ -60,13 +54,15 @@ pub fn phase_number(phase: Phase) -> u64
 const TIMER: u32 = 256;
 
 // The event with a number: a byte, or the timer.
+#[tactic(auto, unfolding(crate::specs::Link::event_at))]
 fn event_at(n: u32) -> LinkEvent
     ensures { result ≡ event_at n }
 {
     if n < TIMER {
-        return LinkEvent::Byte(n as u8);
+        LinkEvent::Byte(n as u8)
+    } else {
+        LinkEvent::Timer
     }
-    LinkEvent::Timer
 }
 
 // The answer to an event.
@@ -82,33 +78,38 @@ fn of_response(answer: Result<LinkAnswer, Refusal>) -> u64
     }
 }
 
+// Whether numbers are a state.
+#[tactic(auto, unfolding(crate::specs::Link::is_state))]
+fn is_state(words: &[u64]) -> bool
+    ensures { result ≡ is_state words.now }
+{
+    words.len() == 3 && words[0] <= 3 && words[2] <= 255
+}
+
 // Writes a state as three numbers.
 fn put_state(state: LinkState, words: &mut [u64])
     requires { length words.old ≡ 3 }
     ensures { words.new ≡ state_words state }
 {
-    let phase = state.phase;
-    words[0] = phase_number(phase);
+    words[0] = phase_number(state.phase);
     words[1] = state.count as u64;
     words[2] = state.check as u64;
 }
 
 // One event at a state that numbers stand for.
+#[tactic(auto, using(crate::proofs::States::three_long))]
 fn receive_at(words: &mut [u64], event: u32, buffer: &mut [u8]) -> u64
     requires { is_state words.old ≡ true }
     ensures { received result words.new buffer.new ≡ received_by (receive_of (state_at words.old) (event_at event) buffer.old) }
 {
-    let happened = event_at(event);
     let before = LinkState {
         count: words[1] as usize,
         check: words[2] as u8,
         phase: phase_at(words[0]),
     };
-    let step = link_receive::receive(before, happened, &mut *buffer);
-    let after = step.state;
-    put_state(after, &mut *words);
-    let answer = step.answer;
-    of_response(answer)
+    let step = link_receive::receive(before, event_at(event), buffer);
+    put_state(step.state, words);
+    of_response(step.answer)
 }
 
 // One event at the receiving half whose state is three numbers, phase, count and check: link_receive::receive. The value is 0
@@ -118,24 +119,9 @@ fn receive_at(words: &mut [u64], event: u32, buffer: &mut [u8]) -> u64
 pub fn hanraquin_receive(state: &mut [u64], event: u32, buffer: &mut [u8]) -> u64
     ensures { received result state.new buffer.new ≡ receive_call state.old event buffer.old }
 {
-    if TIMER < event {
+    // The half would refuse a state against its buffer too. Refused here, it is out of the way of every byte that is received.
+    if TIMER < event || !is_state(state) || link_receive::is_against(state[1] as usize, buffer) {
         return c_answer::refused(Refusal::Setup);
     }
-    if state.len() != 3 {
-        return c_answer::refused(Refusal::Setup);
-    }
-    if 3 < state[0] {
-        return c_answer::refused(Refusal::Setup);
-    }
-    if 255 < state[2] {
-        return c_answer::refused(Refusal::Setup);
-    }
-    // The half would refuse these too. Refused here, they are out of the way of every byte that is received.
-    if buffer.len() < state[1] as usize {
-        return c_answer::refused(Refusal::Setup);
-    }
-    if MAX_DATA < state[1] as usize {
-        return c_answer::refused(Refusal::Setup);
-    }
-    receive_at(&mut *state, event, &mut *buffer)
+    receive_at(state, event, buffer)
 }

@@ -5,8 +5,8 @@ use mathlib.Core.Bool.{Bool, true, false, ◌&&◌, and-false, and-eq-true_iff}
 use mathlib.Core.List.{List, [], ◌∷◌}
 use Prim.Native.Nat.{ℕ, ◌≤◌, ◌<◌}
 use native.Mathlib.Omega.{arith}
-use borrow.Author.Tests.{ltb-true, eqb-true, eq-eqb, ne_eqb, leb-true, le-leb, lt-leb}
-use lib.Dec.{eqb, leb, ltb}
+use borrow.Author.Tests.{eqb-true, leb-true, le-leb, lt-leb}
+use lib.Dec.{eqb, leb}
 use lib.ListN.{length, get_or, drop, set}
 use lib.Seq.{get_or-drop}
 use Rattle.base.proofs.Choice.{pick_either}
@@ -17,7 +17,7 @@ use Rattle.link_send.specs.declared.Priority.{Priority}
 use Rattle.link_send.specs.declared.SendPhase.{SendPhase}
 use Rattle.link_send.specs.declared.Sender.{Sender}
 use Rattle.c_answer.specs.Answer.{refused}
-use Rattle.c_link.specs.Link.{phase_at, is_state}
+use Rattle.c_link.specs.Link.{phase_at}
 use Rattle.c_link.proofs.States.{state_parts}
 use Rattle.c_link_send.specs.Send.{priority_at, send_phase_at, sender_at, is_half, is_sender, start, is_event, event_at, at_sender, at_sender_by, send_call}
 
@@ -54,30 +54,6 @@ nine_stored w a b c d e f p n k long = put_nine a b c d e f p n k (is_nine w lon
 pub both : (s t : Bool) → (s && t) ≡ true → (s ≡ true) × (t ≡ true)
 both s t = (and-eq-true_iff s t).0
 
--- the half's three numbers beside a phase
-module _ (s p n k : ℕ) where
-  module _ (receives : s ≡ 3) where
-    pub half_phase : 3 < p → is_half s (p ∷ n ∷ k ∷ []) ≡ false
-    unfolding is_half is_state
-    half_phase h = rw (eq-eqb s 3 receives, lt-leb p 3 h)
-
-    pub half_check : p ≤ 3 → is_half s (p ∷ n ∷ k ∷ []) ≡ leb k 255
-    unfolding is_half is_state
-    half_check h = rw (eq-eqb s 3 receives, le-leb p 3 h)
-
-  module _ (other : s ≡ 3 → ⊥) where
-    pub junk_phase : (p ≡ 0 → ⊥) → is_half s (p ∷ n ∷ k ∷ []) ≡ false
-    unfolding is_half
-    junk_phase h = rw (ne_eqb s 3 other, ne_eqb p 0 h)
-
-    pub junk_count : p ≡ 0 → (n ≡ 0 → ⊥) → is_half s (p ∷ n ∷ k ∷ []) ≡ false
-    unfolding is_half
-    junk_count e h = rw (ne_eqb s 3 other, eq-eqb p 0 e, ne_eqb n 0 h)
-
-    pub no_half : p ≡ 0 → n ≡ 0 → is_half s (p ∷ n ∷ k ∷ []) ≡ eqb k 0
-    unfolding is_half
-    no_half e h = rw (ne_eqb s 3 other, eq-eqb p 0 e, eq-eqb n 0 h)
-
 half_byte : (s : ℕ) (h : List ℕ) → is_half s h ≡ true → get_or h 2 0 ≤ 255
 unfolding is_half
 half_byte s h =
@@ -112,28 +88,11 @@ module _ (w : List ℕ) where
         half = r.1;
       }
 
-  pub not_nine : (length w ≡ 9 → ⊥) → is_sender w ≡ false
-  unfolding is_sender
-  not_nine h = rw (ne_eqb (length w) 9 h)
+  pub nine_long : is_sender w ≡ true → length w ≡ 9
+  nine_long is = (sender_parts is).nine_long
 
-  pub bad_phase : 5 < get_or w 0 0 → is_sender w ≡ false
-  unfolding is_sender
-  bad_phase h = simp (lt-leb (get_or w 0 0) 5 h, and-false)
-
-  pub bad_priority : 1 < get_or w 3 0 → is_sender w ≡ false
-  unfolding is_sender
-  bad_priority h = simp (lt-leb (get_or w 3 0) 1 h, and-false)
-
-  pub by_half : length w ≡ 9 → get_or w 0 0 ≤ 5 → get_or w 3 0 ≤ 1 →
-      is_sender w ≡ is_half (get_or w 0 0) (get_or w 6 0 ∷ get_or w 7 0 ∷ get_or w 8 0 ∷ [])
-  unfolding is_sender
-  by_half n p q = rw (eq-eqb (length w) 9 n, le-leb (get_or w 0 0) 5 p, le-leb (get_or w 3 0) 1 q, last_three (is_nine w n))
-
-  -- the places of a sender's numbers, and the check, which is a byte
+  -- the check, which is a byte
   module _ (is : is_sender w ≡ true) where
-    pub nine_places : (k : ℕ) → ltb k 9 ≡ true → k < length w
-    nine_places k h = rw (sender_parts is).nine_long (ltb-true k 9 h)
-
     pub check_byte_lem : get_or w 8 0 ≤ 255
     check_byte_lem = rw (get_or-drop 6 w 2 0) at (half_byte (get_or w 0 0) (drop 6 w) (sender_parts is).half)
 

@@ -11,13 +11,15 @@ use link_send::{Attempts, Priority, SendAnswer, SendEvent, SendPhase, Sender};
 use refusal::Refusal;
 
 // The priority with a number.
+#[tactic(auto, unfolding(crate::specs::Send::priority_at))]
 fn priority_at(n: u64) -> Priority
     ensures { result ≡ priority_at n }
 {
     if n == 0 {
-        return Priority::Low;
+        Priority::Low
+    } else {
+        Priority::High
     }
-    Priority::High
 }
 
 // The number of a priority.
@@ -34,25 +36,18 @@ fn priority_number(priority: Priority) -> u64
 const RECEIVING: u64 = 3;
 
 // The phase with a number, and with this half while it receives.
+#[tactic(auto, unfolding(crate::specs::Send::send_phase_at))]
 fn send_phase_at(n: u64, half: LinkState) -> SendPhase
     ensures { result ≡ send_phase_at n half }
 {
-    if n == 0 {
-        return SendPhase::Fresh;
+    match n {
+        0 => SendPhase::Fresh,
+        1 => SendPhase::Opening,
+        2 => SendPhase::Awaiting,
+        RECEIVING => SendPhase::Receiving(half),
+        4 => SendPhase::Sent,
+        _ => SendPhase::GaveUp,
     }
-    if n == 1 {
-        return SendPhase::Opening;
-    }
-    if n == 2 {
-        return SendPhase::Awaiting;
-    }
-    if n == RECEIVING {
-        return SendPhase::Receiving(half);
-    }
-    if n == 4 {
-        return SendPhase::Sent;
-    }
-    SendPhase::GaveUp
 }
 
 // The number of a phase.
@@ -74,54 +69,43 @@ fn half_in(phase: SendPhase) -> LinkState
     ensures { result ≡ half_in phase }
 {
     match phase {
-        SendPhase::Fresh => LinkState::at_rest(),
-        SendPhase::Opening => LinkState::at_rest(),
-        SendPhase::Awaiting => LinkState::at_rest(),
         SendPhase::Receiving(half) => half,
-        SendPhase::Sent => LinkState::at_rest(),
-        SendPhase::GaveUp => LinkState::at_rest(),
+        SendPhase::Fresh
+        | SendPhase::Opening
+        | SendPhase::Awaiting
+        | SendPhase::Sent
+        | SendPhase::GaveUp => LinkState::at_rest(),
     }
 }
 
 // Whether three numbers may be the half's phase, count and check beside the number of the sender's phase.
+#[tactic(auto, unfolding(crate::specs::Send::is_half, c_link::specs::Link::is_state))]
 fn is_half(sending: u64, phase: u64, count: u64, check: u64) -> bool
     ensures { result ≡ is_half sending (phase ∷ count ∷ check ∷ []) }
 {
     if sending == RECEIVING {
-        if 3 < phase {
-            return false;
-        }
-        return check <= 255;
+        phase <= 3 && check <= 255
+    } else {
+        phase == 0 && count == 0 && check == 0
     }
-    if phase != 0 {
-        return false;
-    }
-    if count != 0 {
-        return false;
-    }
-    check == 0
 }
 
 // How many numbers a sender has.
 const WORDS: usize = 9;
 
 // Whether numbers are a sender.
+#[tactic(auto, unfolding(crate::specs::Send::is_sender))]
 fn is_sender(words: &[u64]) -> bool
     ensures { result ≡ is_sender words.now }
 {
-    if words.len() != WORDS {
-        return false;
-    }
-    if 5 < words[0] {
-        return false;
-    }
-    if 1 < words[3] {
-        return false;
-    }
-    is_half(words[0], words[6], words[7], words[8])
+    words.len() == WORDS
+        && words[0] <= 5
+        && words[3] <= 1
+        && is_half(words[0], words[6], words[7], words[8])
 }
 
 // The sender that numbers stand for.
+#[tactic(auto, using(crate::proofs::States::nine_long))]
 fn sender_at(words: &[u64]) -> Sender
     requires { is_sender words.now ≡ true }
     ensures { result ≡ sender_at words.now }
@@ -150,19 +134,14 @@ fn put_sender(state: Sender, words: &mut [u64])
     requires { length words.old ≡ 9 }
     ensures { words.new ≡ sender_words state }
 {
-    let limits = state.limits;
-    let failed = state.failed;
-    let priority = state.priority;
-    let phase = state.phase;
-    let half = half_in(phase);
-    let half_phase = half.phase;
-    words[0] = send_phase_number(phase);
-    words[1] = limits.connections as u64;
-    words[2] = limits.blocks as u64;
-    words[3] = priority_number(priority);
-    words[4] = failed.connections as u64;
-    words[5] = failed.blocks as u64;
-    words[6] = c_link::phase_number(half_phase);
+    let half = half_in(state.phase);
+    words[0] = send_phase_number(state.phase);
+    words[1] = state.limits.connections as u64;
+    words[2] = state.limits.blocks as u64;
+    words[3] = priority_number(state.priority);
+    words[4] = state.failed.connections as u64;
+    words[5] = state.failed.blocks as u64;
+    words[6] = c_link::phase_number(half.phase);
     words[7] = half.count as u64;
     words[8] = half.check as u64;
 }
@@ -174,16 +153,17 @@ const TIMER: u32 = 256;
 const START: u32 = 257;
 
 // The event with a number: a byte, the timer, or the start.
+#[tactic(auto, unfolding(crate::specs::Send::event_at))]
 fn event_at(n: u32) -> SendEvent
     ensures { result ≡ event_at n }
 {
     if n < TIMER {
-        return SendEvent::Byte(n as u8);
+        SendEvent::Byte(n as u8)
+    } else if n == TIMER {
+        SendEvent::Timer
+    } else {
+        SendEvent::Start
     }
-    if n == TIMER {
-        return SendEvent::Timer;
-    }
-    SendEvent::Start
 }
 
 // The answer to an event.
@@ -201,17 +181,14 @@ fn of_answer(answer: Result<SendAnswer, Refusal>) -> u64
 }
 
 // One event at a sender that numbers stand for.
+#[tactic(auto, using(crate::proofs::States::nine_long))]
 fn send_at(words: &mut [u64], event: u32, src: &[u8], buffer: &mut [u8], out: &mut [u8]) -> u64
     requires { is_sender words.old ≡ true }
     ensures { at_sender result words.new buffer.new out.new ≡ at_sender_by (send_of (sender_at words.old) (event_at event) src.now buffer.old out.old).outcome }
 {
-    let before = sender_at(&*words);
-    let happened = event_at(event);
-    let step = link_send::send(before, happened, src, &mut *buffer, &mut *out);
-    let after = step.state;
-    put_sender(after, &mut *words);
-    let answer = step.answer;
-    of_answer(answer)
+    let step = link_send::send(sender_at(words), event_at(event), src, buffer, out);
+    put_sender(step.state, words);
+    of_answer(step.answer)
 }
 
 // One event at the sender whose state is nine numbers, phase, two limits, priority, two counts of failed attempts and the
@@ -228,11 +205,8 @@ pub fn hanraquin_send(
 ) -> u64
     ensures { at_sender result state.new buffer.new out.new ≡ send_call state.old event src.now buffer.old out.old }
 {
-    if START < event {
+    if START < event || !is_sender(state) {
         return c_answer::refused(Refusal::Setup);
     }
-    if !is_sender(&*state) {
-        return c_answer::refused(Refusal::Setup);
-    }
-    send_at(&mut *state, event, src, &mut *buffer, &mut *out)
+    send_at(state, event, src, buffer, out)
 }

@@ -1,6 +1,5 @@
 -- `receive_at`: the numbers are read as a state, and the next state is written.
 -- Assumes nothing.
-use native.Mathlib.Omega.{arith}
 use mathlib.Core.Path.{sym, ap, subst}
 use Rattle.c_link.specs.Link.{received_by}
 use Rattle.c_link.specs.Private.Small.{SmallResponse}
@@ -10,20 +9,8 @@ use Rattle.c_link.proofs.Messages.{response_small}
 use borrow.Author.Rules.{rules}
 use Rattle.c_link.proofs.receive_at.Goals as goal
 
-pub bounds-words-1 : goal.bounds-words-1
-bounds-words-1 c = omega (arith, (state_parts _ c.requires).three)
-
-pub bounds-words-2 : goal.bounds-words-2
-bounds-words-2 c = omega (arith, (state_parts _ c.requires).three)
-
 pub overflow_cast-before : goal.overflow_cast-before
 overflow_cast-before c = search (rules, (state_parts _ c.requires).check)
-
-pub bounds-words-0 : goal.bounds-words-0
-bounds-words-0 c = omega (arith, (state_parts _ c.requires).three)
-
-pub put_state-requires : goal.put_state-requires
-put_state-requires c = (state_parts _ c.requires).three
 
 pub of_response-requires : goal.of_response-requires
 of_response-requires c = subst (λ (o : Outcome). SmallResponse o.reaction.response) (sym c.receive-step.ensures) (response_small _ _ _)
@@ -35,5 +22,5 @@ returns c =
       c.of_response.ensures,
       c.put_state.ensures,
       ← r.phase_at.ensures,
-      ← r.event_at-happened.ensures,
+      ← r.event_at.ensures,
     ) (ap received_by r.receive-step.ensures)

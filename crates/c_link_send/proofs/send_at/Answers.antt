@@ -4,12 +4,8 @@ use mathlib.Core.Path.{sym, ap, subst}
 use Rattle.link_send.specs.Send.{SendOutcome}
 use Rattle.c_link_send.specs.Send.{at_sender_by}
 use Rattle.c_link_send.specs.Private.Small.{SmallResponse}
-use Rattle.c_link_send.proofs.States.{sender_parts}
 use Rattle.c_link_send.proofs.Endings.{send_small}
 use Rattle.c_link_send.proofs.send_at.Goals as goal
-
-pub put_sender-requires : goal.put_sender-requires
-put_sender-requires c = (sender_parts _ c.requires).nine_long
 
 pub of_answer-requires : goal.of_answer-requires
 of_answer-requires c =
@@ -23,6 +19,6 @@ returns c =
     rw (
       c.of_answer.ensures,
       c.put_sender.ensures,
-      ← e.sender_at-before.ensures,
-      ← e.event_at-happened.ensures,
+      ← e.sender_at.ensures,
+      ← e.event_at.ensures,
     ) (ap at_sender_by r.send-step.ensures)
