@@ -13,6 +13,9 @@ use c_answer::NOT_MINE;
 use mop_centre::MAX_ROUTE;
 use refusal::Refusal;
 
+// The places of a run: start, count, and the place of its values.
+const RUN_PLACES: usize = 3;
+
 // The answer of a call that handles a telegram.
 fn of_handled(answer: Result<Option<usize>, Refusal>) -> u64
     ensures { result ≡ of_handled (handled_of answer) }
@@ -67,7 +70,7 @@ fn tell_reply(telegram: &[u8], route: &mut [u8], run: &mut [u16]) -> Result<Opti
 pub fn hanraquin_read_reply(telegram: &[u8], route: &mut [u8], run: &mut [u16]) -> u64
     ensures { reply_told result route.new run.new ≡ read_reply_call telegram.now route.old run.old }
 {
-    if route.len() != MAX_ROUTE || run.len() != 3 {
+    if route.len() != MAX_ROUTE || run.len() != RUN_PLACES {
         return c_answer::refused(Refusal::Setup);
     }
     of_handled(tell_reply(telegram, route, run))

@@ -29,7 +29,8 @@ pub enum StationStep {
     NotMine,
 }
 
-// A telegram whose header is in order, in its parts.
+// A telegram whose header is in order, in its parts. The public step takes them apart, as its callers hold them. The table's
+// length stays a clause beside it: an array of that length would be tested for again behind is_station.
 #[derive(Clone, Copy)]
 struct Telegram<'a> {
     header: Header,
