@@ -26,7 +26,7 @@ fn dle_at(n: u64) -> Dle
     if n == 2 { Dle::Seen } else { Dle::NotSeen }
 }
 
-// The phase with a number.
+// The phase with a number. A function, and no `From`: neither type is of this crate.
 #[tactic(auto, unfolding(crate::specs::Link::phase_at))]
 pub fn phase_at(n: u64) -> Phase
     ensures { result ≡ phase_at n }

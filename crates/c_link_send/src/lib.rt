@@ -10,7 +10,7 @@ use link_receive::LinkState;
 use link_send::{Attempts, Priority, SendAnswer, SendEvent, SendPhase, Sender};
 use refusal::Refusal;
 
-// The priority with a number.
+// The priority with a number. A function, and no `From`, here and below: neither type is of this crate.
 #[tactic(auto, unfolding(crate::specs::Send::priority_at))]
 fn priority_at(n: u64) -> Priority
     ensures { result ≡ priority_at n }

@@ -187,7 +187,7 @@ fn connection_fails(state: Sender) -> Plan
     }
 }
 
-// An attempt to send the block has failed.
+// An attempt to send the block has failed. It is no twin of the other: either count becomes something else here than there.
 #[tactic(auto, unfolding(crate::specs::Send::block_fails))]
 fn block_fails(state: Sender) -> Plan
     ensures { turn_by result ≡ block_fails state }
