@@ -11,7 +11,7 @@ use lib.ListN.{length, drop, replicate, length-append, length-replicate}
 use lib.Seq.{take-append-le}
 use Rattle.base.specs.Choice.{pick}
 use Rattle.base.specs.Places.{placed}
-use Rattle.refusal.specs.Private.Numbers.{numbers_differ}
+use Rattle.refusal.proofs.Numbers.{numbers_differ}
 use Rattle.refusal.specs.declared.Refusal.{Refusal}
 use Rattle.std.specs.Prelude.{Result, Ok, Err}
 use Rattle.mop_block.specs.Block.{has, first}

@@ -1,9 +1,10 @@
 // What every kind of refusals has: numbers that are given back; and the refusals of link, mop and net.
 #![tactic(auto)]
 
-ghost use Rattle.std.specs.Prelude.{◌≡◌, ℕ};
+ghost use Rattle.std.specs.Prelude.{◌≡◌, ℕ, refl};
 ghost use Rattle.refusal.specs.Numbers.{number_of};
-ghost use Rattle.refusal.specs.Private.Numbers.{numbers_differ};
+ghost use Rattle.refusal.specs.Private.Numbers.{told_apart};
+ghost use Rattle.refusal.specs.declared.Refusal.TheVariants.{Setup, HeaderCut, Function, ExtendedCount, Block, Mark, BodyLength, NoRegister, NoWrite, ValueRange, OutputShort, TooLong};
 
 // A kind of refusals, each of which has a number of its own.
 pub trait Numbered: Copy {
@@ -53,5 +54,5 @@ impl Numbered for Refusal {
         self as u8
     }
 
-    ghost differ = { numbers_differ };
+    ghost differ = { told_apart (elim [ Setup ↦ refl | HeaderCut ↦ refl | Function ↦ refl | ExtendedCount ↦ refl | Block ↦ refl | Mark ↦ refl | BodyLength ↦ refl | NoRegister ↦ refl | NoWrite ↦ refl | ValueRange ↦ refl | OutputShort ↦ refl | TooLong ↦ refl ]) };
 }
