@@ -8,7 +8,7 @@ use Prim.Native.Nat.{ℕ, zero, suc, ◌+◌, ◌-◌, ◌≤◌, ◌<◌}
 use native.Mathlib.Nat.{add-zero, add-suc, suc-add}
 use native.Mathlib.Numerals.{add-one}
 use native.Mathlib.Omega.{arith}
-use borrow.Author.Tests.{leb-true, leb-false, le-leb, eqb-true, eqb-false}
+use borrow.Author.Tests.{leb-true, leb-false, eqb-true, eqb-false}
 use lib.Dec.{eqb, leb}
 use lib.ListN.{length, get_or, take, drop, set, length-set}
 use lib.Seq.{sets, drop-cons, get_or-set_same, get_or-set_other}
@@ -59,18 +59,7 @@ run_places s c (suc i) r h =
     let next : exists (suc (s + i)) ≡ true = rw (← add-suc s i) (run_at s c (suc i) r h) in
     rw (add-suc s i, add-suc (place_of s) i) (place_next (s + i) (run_at s c i r before) next ∙ ap suc (run_places s c i r before))
 
--- a number from a first to a last one, or not
-pub within : (first last n : ℕ) → first ≤ n → n ≤ last → from_to first last n ≡ true
-within first last n a b = rw (le-leb first n a, le-leb n last b)
-
-pub outside : (first last n : ℕ) → (first ≤ n → n ≤ last → ⊥) → from_to first last n ≡ false
-outside first last n apart = go (leb first n) refl (leb n last) refl
-  where
-    go : (a : Bool) → leb first n ≡ a → (b : Bool) → leb n last ≡ b → (leb first n && leb n last) ≡ false
-    go true e true f = absurd (apart (leb-true first n e) (leb-true n last f))
-    go true e false f = rw (e, f)
-    go false e b f = rw e
-
+-- a number from a first to a last one
 module _ (first last n : ℕ) (within : from_to first last n ≡ true) where
   pub from_first : first ≤ n
   from_first = leb-true first n (both_true (leb first n) (leb n last) within).0

@@ -24,17 +24,23 @@ enum Range {
 
 // The place of a register's value in a table; TABLE_LENGTH for a number that no register has. In a run of numbers a place is
 // as far from the run's first place as its number is from the run's first number.
+// By comparison and subtraction alone, with no list and no match of the numbers, which is a rule for the station's memory.
 // No Option: a run of no registers may start at any number, and its values are then the empty end of the table.
 pub fn place_of(number: usize) -> usize
     ensures { result ≡ place_of number }
 {
-    match number {
-        2 => 0,
-        300 => 1,
-        931..=936 => 2 + (number - 931),
-        952..=953 => 8 + (number - 952),
-        955..=962 => 10 + (number - 955),
-        _ => TABLE_LENGTH,
+    if number == 2 {
+        0
+    } else if number == 300 {
+        1
+    } else if (931 <= number) & (number <= 936) {
+        2 + (number - 931)
+    } else if (952 <= number) & (number <= 953) {
+        8 + (number - 952)
+    } else if (955 <= number) & (number <= 962) {
+        10 + (number - 955)
+    } else {
+        TABLE_LENGTH
     }
 }
 
