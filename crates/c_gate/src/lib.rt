@@ -329,6 +329,7 @@ fn number_of(answer: BarrierAnswer) -> i32
 pub fn hanraquin_gate_read_answer(src: &[u8], number: &mut [i32]) -> u64
     ensures { answer_told result number.new ≡ read_answer_call src.now number.old }
 {
+    // A test and an index: of a slice pattern with the one place the proof did not close.
     if number.len() != 1 {
         return c_answer::refused(GateRefusal::Setup);
     }

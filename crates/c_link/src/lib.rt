@@ -86,7 +86,7 @@ fn is_state(words: &[u64]) -> bool
     words.len() == 3 && words[0] <= 3 && words[2] <= 255
 }
 
-// Writes a state as three numbers.
+// Writes a state as three numbers, to a slice, which is what C lends.
 fn put_state(state: LinkState, words: &mut [u64])
     requires { length words.old ≡ 3 }
     ensures { words.new ≡ state_words state }

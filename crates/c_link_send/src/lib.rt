@@ -129,7 +129,7 @@ fn sender_at(words: &[u64]) -> Sender
     }
 }
 
-// Writes a sender as nine numbers.
+// Writes a sender as nine numbers, to a slice, which is what C lends.
 fn put_sender(state: Sender, words: &mut [u64])
     requires { length words.old ≡ 9 }
     ensures { words.new ≡ sender_words state }

@@ -72,13 +72,14 @@ fn request_body(rstart: u16, rcount: u8, wstart: u16, values: &[u16]) -> [u8; RE
     requires { length values.now ≤ max_run }
     ensures { take (6 + 2 * length values.now) result ≡ request_body rstart rcount wstart values.now }
 {
+    let [rhigh, rlow] = rstart.to_be_bytes();
+    let [whigh, wlow] = wstart.to_be_bytes();
     let mut body = [0u8; REQUEST_BODY];
-    body[0] = (rstart / 256) as u8;
-    body[1] = (rstart % 256) as u8;
-    body[2] = rcount;
-    body[3] = (wstart / 256) as u8;
-    body[4] = (wstart % 256) as u8;
-    body[5] = values.len() as u8;
+    places::put(
+        &[rhigh, rlow, rcount, whigh, wlow, values.len() as u8],
+        &mut body,
+        0,
+    );
     words::put_words(values, &mut body, 6);
     body
 }

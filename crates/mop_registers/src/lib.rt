@@ -86,7 +86,8 @@ fn may_write(number: usize) -> bool
 fn is_time_of_day(value: u16) -> bool
     ensures { result ≡ time_of_day value }
 {
-    value / 256 <= 23 && value % 256 <= 59
+    let [hour, minute] = value.to_be_bytes();
+    hour <= 23 && minute <= 59
 }
 
 // Whether a value is from a least to a largest.
@@ -127,7 +128,7 @@ pub fn run_may_write(start: u16, count: u8) -> bool
 }
 
 // Whether every value of a run is in the range of its register. A value is two bytes, the high one first; an odd last
-// byte makes none.
+// byte makes none. By index: over `chunks_exact` the proof of the loop did not close.
 pub fn run_takes(start: u16, values: &[u8]) -> bool
     ensures { result ≡ run_takes start (words_of values.now) }
 {

@@ -12,7 +12,8 @@ use mop_reader::Reader;
 use mop_step::{REPLY_BODY, StationStep};
 use refusal::Refusal;
 
-// Sends a telegram for which there is room.
+// Sends a telegram for which there is room. Header, block and body are handed on one by one here, as the public calls below and
+// above take them.
 fn send(header: Header, block: &[u8], body: &[u8], out: &mut [u8]) -> Result<Option<usize>, Refusal>
     requires { length (telegram_of (head_of header block.now) body.now) ≤ length out.old }
     ensures { (t : List ℕ) → handling_of result t out.new ≡ sending (telegram_of (head_of header block.now) body.now) t out.old }

@@ -68,7 +68,8 @@ fn place_at(places: &[u8; BYTES], address: u8) -> Option<usize>
     (places[address as usize] as usize).checked_sub(1)
 }
 
-// The step of the station at a place. "Not mine" is never given, since its own entry is the first.
+// The step of the station at a place. "Not mine" is never given, since its own entry is the first. The table is cut by its bounds:
+// of chunks that are lent for writing the library does not say what they leave.
 #[tactic(auto, unfolding(mop_registers::specs::Rows::table_length))]
 fn step_at(
     own: u8,
@@ -96,7 +97,7 @@ fn step_at(
 // One hop of a journey: the station that the header's first entry names makes its step, with the table at its place and room for
 // the longest telegram. Relayed: the header with which the telegram goes on. Answered: the header of the reply, and how many
 // places of the lent buffer its body fills. Ended, and tables and buffer as they were: at an entry 00; at an address without a place, or
-// with one that the tables do not reach; refused by that station.
+// with one that the tables do not reach; refused by that station. Header, block and body are as a step takes them.
 pub fn hop(
     header: Header,
     block: &[u8],
