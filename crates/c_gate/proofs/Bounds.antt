@@ -20,8 +20,8 @@ use Rattle.gate_telegram.proofs.Telegrams.{length_telegram}
 use Rattle.gate_receive.specs.Receive.{Response, nothing, telegram, token, refuses, Reaction, Storing, Judging, Outcome, to, starting_again, with, rest_of, destination_of, source_of, length_of, data_of, accepted_of, judged_of, others_length_of, dropping_of, byte_of, event_of, overcounts, receive_of}
 use Rattle.gate_receive.specs.declared.GateState.{GateState}
 use Rattle.gate_receive.specs.declared.GateState.TheVariants.{Rest, AtDestination, AtSource, AtLength, AtData, AtLowCheck, OthersSource, OthersLength, Dropping}
-use Rattle.gate_receive.specs.declared.GateEvent.{GateEvent}
-use Rattle.gate_receive.specs.declared.GateEvent.TheVariants.{Byte, Timer}
+use Rattle.events.specs.declared.Event.{Event}
+use Rattle.events.specs.declared.Event.TheVariants.{Byte, Timer}
 use Rattle.gate_receive.proofs.Bounds.{low_check_bound}
 use Rattle.c_answer.proofs.Refusals.{above_values, below_not_mine}
 use Rattle.signed.specs.Signed.{four_bytes}
@@ -174,13 +174,13 @@ byte_small own OthersSource b st out from e = tt
 byte_small own OthersLength b st out from e = tt
 byte_small own (Dropping left) b st out from e = pick_either SmallStep (leb left 1) tt tt
 
-event_small : (own : ℕ) (s : GateState) (st : List ℕ) (e : GateEvent) (out : List ℕ) → SmallSource s → overcounts s ≡ false →
+event_small : (own : ℕ) (s : GateState) (st : List ℕ) (e : Event) (out : List ℕ) → SmallSource s → overcounts s ≡ false →
     SmallOutcome (event_of own s st e out)
 unfolding event_of
 event_small own s st (Byte b) out from h = byte_small own s b st out from h
 event_small own s st Timer out from h = tt
 
-module _ (own : ℕ) (s : GateState) (st : List ℕ) (e : GateEvent) (out : List ℕ) (from : SmallSource s) where
+module _ (own : ℕ) (s : GateState) (st : List ℕ) (e : Event) (out : List ℕ) (from : SmallSource s) where
   by_counts : (t u : Bool) → overcounts s ≡ u →
       SmallOutcome (pick (t || u) (with (to (refuses 1) s) st out) (pick (eqb own reserved) (with (starting_again (refuses 16)) st out) (event_of own s st e out)))
   by_counts true u is = tt
@@ -192,7 +192,7 @@ module _ (own : ℕ) (s : GateState) (st : List ℕ) (e : GateEvent) (out : List
   receive_small = by_counts (not (eqb (length st) max_data)) (overcounts s) refl
 
 -- at numbers that fit
-fitting_small : (own : ℕ) (w st : List ℕ) (e : GateEvent) (out : List ℕ) → fits w ≡ true → SmallOutcome (receive_of own (state_at w) st e out)
+fitting_small : (own : ℕ) (w st : List ℕ) (e : Event) (out : List ℕ) → fits w ≡ true → SmallOutcome (receive_of own (state_at w) st e out)
 fitting_small own w st e out h = receive_small own (state_at w) st e out (state_source w (fits_parts w h).source)
 
 pub gate_bounds : GateBounds

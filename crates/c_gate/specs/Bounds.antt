@@ -6,7 +6,7 @@ use Rattle.gate_refusal.specs.Numbers.{number_of}
 use Rattle.gate_refusal.specs.declared.GateRefusal.{GateRefusal}
 use Rattle.gate_telegram.specs.Telegram.{max_data, telegram_writing}
 use Rattle.gate_receive.specs.Receive.{telegram, token, receive_of}
-use Rattle.gate_receive.specs.declared.GateEvent.{GateEvent}
+use Rattle.events.specs.declared.Event.{Event}
 use Rattle.gate_commands.specs.Commands.{answers, operating, command_writing}
 use Rattle.gate_commands.specs.declared.GateRegisters.{GateRegisters}
 use Rattle.gate_answers.specs.Answers.{answer_writing}
@@ -28,9 +28,9 @@ pub record GateBounds : Type 0 where
   pub command_long : (c f : ℕ) (out : List ℕ) (n : ℕ) → (command_writing c f out).given ≡ filled n → n ≤ 3
   pub answer_long : (a : BarrierAnswer) (out : List ℕ) (n : ℕ) → (answer_writing a out).given ≡ filled n → n ≤ 5
   -- what comes of an event at numbers that fit: source and number of data bytes are bytes, so a telegram is told from a token
-  pub received : (own : ℕ) (w st : List ℕ) (e : GateEvent) (out : List ℕ) (from n : ℕ) → fits w ≡ true →
+  pub received : (own : ℕ) (w st : List ℕ) (e : Event) (out : List ℕ) (from n : ℕ) → fits w ≡ true →
       (receive_of own (state_at w) st e out).reaction.response ≡ telegram from n → (from ≤ 255) × (n ≤ max_data)
-  pub passed_on : (own : ℕ) (w st : List ℕ) (e : GateEvent) (out : List ℕ) (from : ℕ) → fits w ≡ true →
+  pub passed_on : (own : ℕ) (w st : List ℕ) (e : Event) (out : List ℕ) (from : ℕ) → fits w ≡ true →
       (receive_of own (state_at w) st e out).reaction.response ≡ token from → from ≤ 255
   -- what a command is answered by, and the kinds of answers
   pub verdict : (r : GateRegisters) (bs : List ℕ) (b : ℕ) → (operating r bs).verdict ≡ answers b → b ≤ 2

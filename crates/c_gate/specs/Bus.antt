@@ -6,8 +6,8 @@ use Rattle.gate_telegram.specs.Telegram.{telegram_writing}
 use Rattle.gate_receive.specs.Receive.{Response, nothing, telegram, token, refuses, Outcome, receive_of}
 use Rattle.gate_receive.specs.declared.GateState.{GateState}
 use Rattle.gate_receive.specs.declared.GateState.TheVariants.{Rest, AtDestination, AtSource, AtLength, AtData, AtLowCheck, OthersSource, OthersLength, Dropping}
-use Rattle.gate_receive.specs.declared.GateEvent.{GateEvent}
-use Rattle.gate_receive.specs.declared.GateEvent.TheVariants.{Byte, Timer}
+use Rattle.events.specs.declared.Event.{Event}
+use Rattle.events.specs.declared.Event.TheVariants.{Byte, Timer}
 use Rattle.c_answer.specs.Answer.{done, refused, Written, written_by}
 
 -- hanraquin_gate_write: as telegram_writing says
@@ -63,7 +63,7 @@ is_state w = fits w && same w (state_words (state_at w))
 abbrev pub timer : ℕ
 timer = 256
 
-unfoldable pub event_at : ℕ → GateEvent
+unfoldable pub event_at : ℕ → Event
 event_at n = pick (ltb n timer) (Byte n) Timer
 
 -- the value tells what came: 0 nothing; 65536, 256 times the source and the number of data bytes for a telegram; 131072 and

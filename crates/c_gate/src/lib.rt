@@ -12,9 +12,10 @@ ghost use Rattle.c_gate.specs.Bus.{write_call, state_words, state_at, fits, is_s
 ghost use Rattle.c_gate.specs.Commands.{is_bits, bits_at, bit_numbers, of_verdict, operated, operate_call, write_command_call};
 ghost use Rattle.c_gate.specs.Answers.{answer_at, write_answer_call, kind_of, number_in, answer_told, read_answer_call};
 
+use events::Event;
 use gate_answers::{ACK, BUSY, BarrierAnswer, COUNT, NAK, POSITION, SYN};
 use gate_commands::{COMMANDS, GateRegisters, OperateAnswer};
-use gate_receive::{GateAnswer, GateEvent, GateState};
+use gate_receive::{GateAnswer, GateState};
 use gate_refusal::GateRefusal;
 
 // The telegram from source to destination with the data: gate_telegram::write. The value is its length.
@@ -155,13 +156,13 @@ const TIMER: u32 = 256;
 
 // The event with a number: a byte, or the timer.
 #[tactic(auto, unfolding(crate::specs::Bus::event_at))]
-fn event_at(n: u32) -> GateEvent
+fn event_at(n: u32) -> Event
     ensures { result ≡ event_at n }
 {
     if n < TIMER {
-        GateEvent::Byte(n as u8)
+        Event::Byte(n as u8)
     } else {
-        GateEvent::Timer
+        Event::Timer
     }
 }
 

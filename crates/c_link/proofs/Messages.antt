@@ -19,8 +19,8 @@ use Rattle.link_receive.specs.declared.Dle.TheVariants.{Seen, NotSeen}
 use Rattle.link_receive.specs.declared.Phase.{Phase}
 use Rattle.link_receive.specs.declared.Phase.TheVariants.{Rest, Inside, Waiting}
 use Rattle.link_receive.specs.declared.LinkState.{LinkState}
-use Rattle.link_receive.specs.declared.LinkEvent.{LinkEvent}
-use Rattle.link_receive.specs.declared.LinkEvent.TheVariants.{Byte, Timer}
+use Rattle.events.specs.declared.Event.{Event}
+use Rattle.events.specs.declared.Event.TheVariants.{Byte, Timer}
 use Rattle.c_link.specs.Private.Small.{SmallResponse}
 
 abbrev short : Reaction → Type 0
@@ -49,7 +49,7 @@ waiting_short : (n c b : ℕ) → n ≤ max_data → short (waiting_of n c b)
 unfolding waiting_of
 waiting_short n c b most = pick_either short (eqb b c) most (omega arith)
 
-event_short : (e : LinkEvent) (p : Phase) (n c : ℕ) (buf : List ℕ) → n ≤ max_data → short_out (event_of e (at p n c) buf)
+event_short : (e : Event) (p : Phase) (n c : ℕ) (buf : List ℕ) → n ≤ max_data → short_out (event_of e (at p n c) buf)
 unfolding event_of byte_of timer_of
 event_short (Byte b) Rest n c buf most = rest_short b
 event_short (Byte b) (Inside d) n c buf most = inside_short d n (bit_xor c b) b buf
@@ -58,12 +58,12 @@ event_short Timer Rest n c buf most = tt
 event_short Timer (Inside d) n c buf most = omega arith
 event_short Timer Waiting n c buf most = omega arith
 
-by_limit : (s : LinkState) (e : LinkEvent) (buf : List ℕ) (t u : Bool) → ltb max_data s.count ≡ u →
+by_limit : (s : LinkState) (e : Event) (buf : List ℕ) (t u : Bool) → ltb max_data s.count ≡ u →
     short_out (pick (t || u) (with (to (refuses 1) s) buf) (event_of e s buf))
 by_limit s e buf true u is = tt
 by_limit s e buf false true is = tt
 by_limit s e buf false false is = event_short e s.phase s.count s.check buf (ltb-false max_data s.count is)
 
-pub response_small : (s : LinkState) (e : LinkEvent) (buf : List ℕ) → SmallResponse (receive_of s e buf).reaction.response
+pub response_small : (s : LinkState) (e : Event) (buf : List ℕ) → SmallResponse (receive_of s e buf).reaction.response
 unfolding receive_of against
 response_small s e buf = by_limit s e buf (ltb (length buf) s.count) (ltb max_data s.count) refl

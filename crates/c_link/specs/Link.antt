@@ -9,8 +9,8 @@ use Rattle.link_receive.specs.declared.Dle.TheVariants.{Seen, NotSeen}
 use Rattle.link_receive.specs.declared.Phase.{Phase}
 use Rattle.link_receive.specs.declared.Phase.TheVariants.{Rest, Inside, Waiting}
 use Rattle.link_receive.specs.declared.LinkState.{LinkState}
-use Rattle.link_receive.specs.declared.LinkEvent.{LinkEvent}
-use Rattle.link_receive.specs.declared.LinkEvent.TheVariants.{Byte, Timer}
+use Rattle.events.specs.declared.Event.{Event}
+use Rattle.events.specs.declared.Event.TheVariants.{Byte, Timer}
 use Rattle.c_answer.specs.Answer.{done, refused, Written, written_by}
 
 -- hanraquin_frame: as framing says
@@ -47,7 +47,7 @@ unfoldable pub is_event : ℕ → Bool
 is_event n = leb n 256
 
 -- the event, for the numbers that `is_event` takes
-unfoldable pub event_at : ℕ → LinkEvent
+unfoldable pub event_at : ℕ → Event
 event_at n = pick (ltb n 256) (Byte n) Timer
 
 -- the value tells what to do: 0 nothing; 256 and the byte to send; 65536 and the length of the message, with which a DLE is sent

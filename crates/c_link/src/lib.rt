@@ -8,7 +8,8 @@ ghost use Rattle.c_answer.specs.Answer.{written};
 ghost use Rattle.c_link.specs.Link.{frame_call, dle_at, phase_number, phase_at, state_words, state_at, is_state, event_at, of_response, received, received_by, receive_call};
 ghost use Rattle.c_link.specs.Private.Small.{SmallResponse};
 
-use link_receive::{Dle, LinkAnswer, LinkEvent, LinkState, Phase};
+use events::Event;
+use link_receive::{Dle, LinkAnswer, LinkState, Phase};
 use refusal::Refusal;
 
 // The frame of the data in the first places of out: link_frame::frame. The value is the frame's length.
@@ -55,13 +56,13 @@ const TIMER: u32 = 256;
 
 // The event with a number: a byte, or the timer.
 #[tactic(auto, unfolding(crate::specs::Link::event_at))]
-fn event_at(n: u32) -> LinkEvent
+fn event_at(n: u32) -> Event
     ensures { result ≡ event_at n }
 {
     if n < TIMER {
-        LinkEvent::Byte(n as u8)
+        Event::Byte(n as u8)
     } else {
-        LinkEvent::Timer
+        Event::Timer
     }
 }
 

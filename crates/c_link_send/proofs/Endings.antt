@@ -15,8 +15,8 @@ use Rattle.link_frame.proofs.Doubling.{doubled_bound}
 use Rattle.link_frame.proofs.Framing.{length_frame}
 use Rattle.link_receive.specs.Receive as half
 use Rattle.link_receive.specs.Receive.{Response, Reaction, receive_of}
-use Rattle.link_receive.specs.declared.LinkEvent.{LinkEvent}
-use Rattle.link_receive.specs.declared.LinkEvent.TheVariants as heard
+use Rattle.events.specs.declared.Event.{Event}
+use Rattle.events.specs.declared.Event.TheVariants as heard
 use Rattle.link_receive.specs.declared.LinkState.{LinkState}
 use Rattle.link_receive.specs.declared.Phase.{Phase}
 use Rattle.link_receive.specs.declared.Phase.TheVariants.{Rest, Inside, Waiting}
@@ -85,7 +85,7 @@ module _ (d : List ℕ) where
   after_small (Inside e) s r count = relaying_small r.response [] s (omega arith) count
   after_small Waiting s r count = relaying_small r.response [] s (omega arith) count
 
-  heard_small : (s : Sender) (h : LinkState) (e : LinkEvent) (buf : List ℕ) → Small d (after_half s (receive_of h e buf).reaction)
+  heard_small : (s : Sender) (h : LinkState) (e : Event) (buf : List ℕ) → Small d (after_half s (receive_of h e buf).reaction)
   unfolding after_half
   heard_small s h e buf =
       let r = (receive_of h e buf).reaction in after_small r.next.phase s r (link_bounds.message h e buf)

@@ -14,8 +14,8 @@ use Rattle.base.specs.Words.{word}
 use Rattle.base.proofs.Choice.{pick_either}
 use Rattle.gate_telegram.specs.Telegram.{start_byte, reserved, max_data, slave_token}
 use Rattle.gate_receive.specs.Receive.{Response, nothing, telegram, token, refuses, Reaction, Outcome, Storing, Judging, to, starting_again, with, rest_of, destination_of, source_of, length_of, data_of, accepted_of, judged_of, others_length_of, dropping_of, byte_of, event_of, overcounts, receive_of}
-use Rattle.gate_receive.specs.declared.GateEvent.{GateEvent}
-use Rattle.gate_receive.specs.declared.GateEvent.TheVariants.{Byte, Timer}
+use Rattle.events.specs.declared.Event.{Event}
+use Rattle.events.specs.declared.Event.TheVariants.{Byte, Timer}
 use Rattle.gate_receive.specs.declared.GateState.{GateState}
 use Rattle.gate_receive.specs.declared.GateState.TheVariants.{Rest, AtDestination, AtSource, AtLength, AtData, AtLowCheck, OthersSource, OthersLength, Dropping}
 use Rattle.gate_laws.specs.Events.{RefusedLeaves, RefusedStartsAgain, output_after, OnlyAcceptedIsPut, StoreKept, StoresAtCount}
@@ -117,12 +117,12 @@ module _ (st out : List ℕ) where
   byte_lawful own OthersLength b = goes_on OthersLength st out _
   byte_lawful own (Dropping left) b = goes_either (Dropping left) st out (leb left 1) _ _
 
-  event_lawful : (own : ℕ) (s : GateState) (e : GateEvent) → Lawful s st out (event_of own s st e out)
+  event_lawful : (own : ℕ) (s : GateState) (e : Event) → Lawful s st out (event_of own s st e out)
   unfolding event_of
   event_lawful own s (Byte b) = byte_lawful own s b
   event_lawful own s Timer = goes_on s st out Rest
 
-  lawful : (own : ℕ) (s : GateState) (e : GateEvent) → Lawful s st out (receive_of own s st e out)
+  lawful : (own : ℕ) (s : GateState) (e : Event) → Lawful s st out (receive_of own s st e out)
   unfolding receive_of
   lawful own s e =
       pick_either (Lawful s st out) (not (eqb (length st) max_data) || overcounts s)

@@ -3,7 +3,7 @@
 use Rattle.std.specs.Prelude.{ℕ, ◌≡◌, List, length, get_or, take}
 use Rattle.base.specs.Places.{placed}
 use Rattle.gate_receive.specs.Receive.{Response, nothing, telegram, token, refuses, Outcome, with, to, starting_again, receive_of}
-use Rattle.gate_receive.specs.declared.GateEvent.{GateEvent}
+use Rattle.events.specs.declared.Event.{Event}
 use Rattle.gate_receive.specs.declared.GateState.{GateState}
 use Rattle.gate_receive.specs.declared.GateState.TheVariants.{Rest, AtDestination, AtSource, AtLength, AtData, AtLowCheck, OthersSource, OthersLength, Dropping}
 
@@ -14,7 +14,7 @@ pub record RefusedLeaves (s : GateState) (st out : List ℕ) (o : Outcome) (k : 
 
 abbrev pub RefusedStartsAgain : Type 0
 RefusedStartsAgain =
-    (own : ℕ) (s : GateState) (st : List ℕ) (e : GateEvent) (out : List ℕ) (k : ℕ) →
+    (own : ℕ) (s : GateState) (st : List ℕ) (e : Event) (out : List ℕ) (k : ℕ) →
     (receive_of own s st e out).reaction.response ≡ refuses k → RefusedLeaves s st out (receive_of own s st e out) k
 
 -- what an answer leaves of the output: an accepted telegram its data in the first places, all else as it was
@@ -26,7 +26,7 @@ output_after (refuses k) st out = out
 
 abbrev pub OnlyAcceptedIsPut : Type 0
 OnlyAcceptedIsPut =
-    (own : ℕ) (s : GateState) (st : List ℕ) (e : GateEvent) (out : List ℕ) →
+    (own : ℕ) (s : GateState) (st : List ℕ) (e : Event) (out : List ℕ) →
     (receive_of own s st e out).output ≡ output_after (receive_of own s st e out).reaction.response st out
 
 -- the place that an event may write: the count of data bytes stored, in the one phase that has it
@@ -48,4 +48,4 @@ pub record StoreKept (s : GateState) (before after : List ℕ) : Type 0 where
 
 abbrev pub StoresAtCount : Type 0
 StoresAtCount =
-    (own : ℕ) (s : GateState) (st : List ℕ) (e : GateEvent) (out : List ℕ) → StoreKept s st (receive_of own s st e out).store
+    (own : ℕ) (s : GateState) (st : List ℕ) (e : Event) (out : List ℕ) → StoreKept s st (receive_of own s st e out).store

@@ -2,7 +2,7 @@
 -- Assumes nothing.
 use Rattle.std.specs.Prelude.{ℕ, List, [], ◌∷◌, ◌++◌}
 use Rattle.gate_receive.specs.Receive.{Response, receive_of}
-use Rattle.gate_receive.specs.declared.GateEvent.TheVariants.{Byte}
+use Rattle.events.specs.declared.Event.TheVariants.{Byte}
 use Rattle.gate_receive.specs.declared.GateState.{GateState}
 
 -- the answers in order, and the state, the store and the output at the end

@@ -12,8 +12,8 @@ use Rattle.gate_telegram.specs.Telegram.{reserved, max_data}
 use Rattle.gate_receive.specs.Receive.{byte_of, event_of, overcounts, receive_of}
 use Rattle.gate_receive.specs.declared.GateState.{GateState}
 use Rattle.gate_receive.specs.declared.GateState.TheVariants.{AtData, AtLowCheck, Dropping}
-use Rattle.gate_receive.specs.declared.GateEvent.{GateEvent}
-use Rattle.gate_receive.specs.declared.GateEvent.TheVariants.{Byte}
+use Rattle.events.specs.declared.Event.{Event}
+use Rattle.events.specs.declared.Event.TheVariants.{Byte}
 
 module _ (d s n k c : ℕ) where
   pub data_counts : n ≤ max_data → overcounts (AtData d s n k c) ≡ ltb n k
@@ -42,7 +42,7 @@ pub dropping_within : (left : ℕ) → left ≤ 257 → overcounts (Dropping lef
 unfolding overcounts
 dropping_within left h = le-ltb 257 left h
 
-module _ (own : ℕ) (s : GateState) (st : List ℕ) (e : GateEvent) (out : List ℕ) where
+module _ (own : ℕ) (s : GateState) (st : List ℕ) (e : Event) (out : List ℕ) where
   pub receive_event : length st ≡ max_data → overcounts s ≡ false → (own ≡ reserved → ⊥) →
       receive_of own s st e out ≡ event_of own s st e out
   unfolding receive_of

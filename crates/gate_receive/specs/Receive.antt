@@ -10,8 +10,8 @@ use Rattle.gate_refusal.specs.declared.GateRefusal.{GateRefusal}
 use Rattle.gate_telegram.specs.Telegram.{start_byte, reserved, max_data, slave_token}
 use Rattle.gate_receive.specs.declared.GateState.{GateState}
 use Rattle.gate_receive.specs.declared.GateState.TheVariants.{Rest, AtDestination, AtSource, AtLength, AtData, AtLowCheck, OthersSource, OthersLength, Dropping}
-use Rattle.gate_receive.specs.declared.GateEvent.{GateEvent}
-use Rattle.gate_receive.specs.declared.GateEvent.TheVariants.{Byte, Timer}
+use Rattle.events.specs.declared.Event.{Event}
+use Rattle.events.specs.declared.Event.TheVariants.{Byte, Timer}
 use Rattle.gate_receive.specs.declared.GateAnswer.{GateAnswer}
 use Rattle.gate_receive.specs.declared.GateAnswer.TheVariants.{Nothing, Telegram, Token}
 use Rattle.gate_receive.specs.declared.GateStep.{GateStep}
@@ -138,7 +138,7 @@ byte_of own OthersLength b st out = with (others_length_of b) st out
 byte_of own (Dropping left) b st out = with (dropping_of left) st out
 
 -- an event; the timer starts the receiver again, with no number
-unfoldable pub event_of : ℕ → GateState → List ℕ → GateEvent → List ℕ → Outcome
+unfoldable pub event_of : ℕ → GateState → List ℕ → Event → List ℕ → Outcome
 event_of own s st (Byte b) out = byte_of own s b st out
 event_of own s st Timer out = with (starting_again nothing) st out
 
@@ -161,7 +161,7 @@ overcounts (Dropping left) = ltb most_left left
 
 -- one event: 1 for a store that does not have as many places as there can be data bytes, or a state that overcounts, and all
 -- stays; then 16 where our own address is FF; then the event
-unfoldable pub receive_of : ℕ → GateState → List ℕ → GateEvent → List ℕ → Outcome
+unfoldable pub receive_of : ℕ → GateState → List ℕ → Event → List ℕ → Outcome
 receive_of own s st e out =
     pick (not (eqb (length st) max_data) || overcounts s) (with (to (refuses 1) s) st out)
     (pick (eqb own reserved) (with (starting_again (refuses 16)) st out) (event_of own s st e out))

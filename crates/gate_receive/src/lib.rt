@@ -7,6 +7,7 @@ ghost use Rattle.gate_receive.specs.Private.Steps.{storing_of, judging_of};
 ghost use Rattle.gate_receive.specs.declared.GateState.TheVariants.{Rest};
 
 use crc16::ccitt;
+use events::Event;
 use gate_refusal::GateRefusal;
 use gate_telegram::{MAX_DATA, RESERVED, START_BYTE};
 
@@ -61,13 +62,6 @@ impl GateState {
     {
         Self::Rest
     }
-}
-
-// A byte came, or the timer ran out.
-#[derive(Clone, Copy)]
-pub enum GateEvent {
-    Byte(u8),
-    Timer,
 }
 
 // Nothing; a telegram with its source and the number of its data bytes; a token with its source.
@@ -323,7 +317,7 @@ pub fn receive(
     own: u8,
     state: GateState,
     store: &mut [u8],
-    event: GateEvent,
+    event: Event,
     out: &mut [u8],
 ) -> GateStep
     ensures { outcome_of result store.new out.new ≡ receive_of own state store.old event out.old }
@@ -338,7 +332,7 @@ pub fn receive(
         return start_again(Err(GateRefusal::Address));
     }
     match event {
-        GateEvent::Byte(b) => take_byte(own, state, b, store, out),
-        GateEvent::Timer => start_again(Ok(GateAnswer::Nothing)),
+        Event::Byte(b) => take_byte(own, state, b, store, out),
+        Event::Timer => start_again(Ok(GateAnswer::Nothing)),
     }
 }

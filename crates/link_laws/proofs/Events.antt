@@ -12,8 +12,8 @@ use Rattle.link_frame.specs.ControlBytes.{STX, ETX, DLE, NAK}
 use Rattle.link_receive.specs.Receive.{Response, nothing, sends, delivers, Reaction, Outcome, Storing, at, to, with, resting, no_room, against, after_store, byte_of, data_of, event_of, inside_of, receive_of, rest_of, store_of, timer_of, waiting_of}
 use Rattle.link_receive.specs.declared.Dle.{Dle}
 use Rattle.link_receive.specs.declared.Dle.TheVariants.{Seen, NotSeen}
-use Rattle.link_receive.specs.declared.LinkEvent.{LinkEvent}
-use Rattle.link_receive.specs.declared.LinkEvent.TheVariants.{Byte, Timer}
+use Rattle.events.specs.declared.Event.{Event}
+use Rattle.events.specs.declared.Event.TheVariants.{Byte, Timer}
 use Rattle.link_receive.specs.declared.LinkState.{LinkState}
 use Rattle.link_receive.specs.declared.Phase.{Phase}
 use Rattle.link_receive.specs.declared.Phase.TheVariants.{Rest, Inside, Waiting}
@@ -80,7 +80,7 @@ module _ (n : ℕ) (buf : List ℕ) where
   timer_lawful (Inside d) = rests (sends NAK)
   timer_lawful Waiting = rests (sends NAK)
 
-event_lawful : (e : LinkEvent) (s : LinkState) (buf : List ℕ) → Lawful s.count buf (event_of e s buf)
+event_lawful : (e : Event) (s : LinkState) (buf : List ℕ) → Lawful s.count buf (event_of e s buf)
 unfolding event_of
 event_lawful (Byte b) s buf = byte_lawful s.count buf s.phase s.check b
 event_lawful Timer s buf = timer_lawful s.count buf s.phase

@@ -9,7 +9,7 @@ use lib.ListN.{length, set}
 use Rattle.link_frame.specs.ControlBytes.{STX, ETX, DLE}
 use Rattle.link_receive.specs.Receive.{Reaction, Outcome, nothing, sends, delivers, at, to, with, after_store, data_of, byte_of, event_of, receive_of}
 use Rattle.link_receive.specs.declared.Dle.TheVariants.{Seen, NotSeen}
-use Rattle.link_receive.specs.declared.LinkEvent.TheVariants.{Byte}
+use Rattle.events.specs.declared.Event.TheVariants.{Byte}
 use Rattle.link_receive.specs.declared.LinkState.{LinkState}
 use Rattle.link_receive.specs.declared.Phase.TheVariants.{Rest, Inside, Waiting}
 use Rattle.link_receive.proofs.Bounds.{store_room, receive_agrees}

@@ -2,7 +2,7 @@
 -- Assumes nothing.
 use Rattle.std.specs.Prelude.{ℕ, List, [], ◌∷◌, ◌++◌}
 use Rattle.link_receive.specs.Receive.{Response, receive_of}
-use Rattle.link_receive.specs.declared.LinkEvent.TheVariants.{Byte}
+use Rattle.events.specs.declared.Event.TheVariants.{Byte}
 use Rattle.link_receive.specs.declared.LinkState.{LinkState}
 
 -- the answers in order, and the state and the buffer at the end

@@ -8,7 +8,7 @@ use lib.ListN.{length, set}
 use Rattle.std.specs.Prelude.{Some}
 use Rattle.link_receive.specs.Receive.{at, storing, no_room, store_of, against, event_of, receive_of}
 use Rattle.link_receive.specs.declared.Dle.TheVariants.{NotSeen}
-use Rattle.link_receive.specs.declared.LinkEvent.{LinkEvent}
+use Rattle.events.specs.declared.Event.{Event}
 use Rattle.link_receive.specs.declared.LinkState.{LinkState}
 use Rattle.link_receive.specs.declared.Phase.TheVariants.{Inside}
 
@@ -17,7 +17,7 @@ module _ (n c b : ℕ) (buf : List ℕ) where
   unfolding store_of no_room
   store_room h k = simp (lt-leb _ _ h, lt-leb _ _ k)
 
-module _ (s : LinkState) (e : LinkEvent) (buf : List ℕ) where
+module _ (s : LinkState) (e : Event) (buf : List ℕ) where
   pub receive_agrees : s.count ≤ length buf → s.count ≤ 1024 → receive_of s e buf ≡ event_of e s buf
   unfolding receive_of against
   receive_agrees h k = simp (le-ltb _ _ h, le-ltb _ _ k)

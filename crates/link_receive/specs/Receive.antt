@@ -12,8 +12,8 @@ use Rattle.link_receive.specs.declared.Dle.TheVariants.{Seen, NotSeen}
 use Rattle.link_receive.specs.declared.Phase.{Phase}
 use Rattle.link_receive.specs.declared.Phase.TheVariants.{Rest, Inside, Waiting}
 use Rattle.link_receive.specs.declared.LinkState.{LinkState}
-use Rattle.link_receive.specs.declared.LinkEvent.{LinkEvent}
-use Rattle.link_receive.specs.declared.LinkEvent.TheVariants.{Byte, Timer}
+use Rattle.events.specs.declared.Event.{Event}
+use Rattle.events.specs.declared.Event.TheVariants.{Byte, Timer}
 use Rattle.link_receive.specs.declared.LinkAnswer.{LinkAnswer}
 use Rattle.link_receive.specs.declared.LinkAnswer.TheVariants.{Nothing, Send, Message}
 use Rattle.link_receive.specs.declared.LinkStep.{LinkStep}
@@ -125,7 +125,7 @@ timer_of (Inside d) = resting (sends NAK)
 timer_of Waiting = resting (sends NAK)
 
 -- an event, at any state
-unfoldable pub event_of : LinkEvent → LinkState → List ℕ → Outcome
+unfoldable pub event_of : Event → LinkState → List ℕ → Outcome
 event_of (Byte b) s buf = byte_of s.phase s.count s.check b buf
 event_of Timer s buf = with (timer_of s.phase) buf
 
@@ -134,5 +134,5 @@ unfoldable pub against : ℕ → List ℕ → Bool
 against n buf = ltb (length buf) n || ltb max_data n
 
 -- one event; a state against its buffer is refused with 1, and state and buffer stay
-unfoldable pub receive_of : LinkState → LinkEvent → List ℕ → Outcome
+unfoldable pub receive_of : LinkState → Event → List ℕ → Outcome
 receive_of s e buf = pick (against s.count buf) (with (to (refuses 1) s) buf) (event_of e s buf)

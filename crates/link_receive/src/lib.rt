@@ -5,6 +5,7 @@ ghost use Rattle.std.specs.Prelude.{◌≡◌};
 ghost use Rattle.link_receive.specs.Receive.{told_by, reaction_of, outcome_of, at, against, resting, rest_of, storing, store_of, data_of, inside_of, waiting_of, event_of, receive_of};
 ghost use Rattle.link_receive.specs.declared.Phase.TheVariants.{Rest};
 
+use events::Event;
 use link_frame::MAX_DATA;
 use link_frame::control::{DLE, ETX, NAK, STX};
 use refusal::Refusal;
@@ -43,13 +44,6 @@ impl LinkState {
             phase: Phase::Rest,
         }
     }
-}
-
-// A byte came, or the timer ran out.
-#[derive(Clone, Copy, Debug, PartialEq, Eq)]
-pub enum LinkEvent {
-    Byte(u8),
-    Timer,
 }
 
 // Nothing to send; a byte to send; a DLE to send and a message of so many bytes.
@@ -164,21 +158,21 @@ fn waiting_byte(state: LinkState, b: u8) -> LinkStep
 
 // One event, whatever the count. Every byte inside a block goes into the check.
 #[tactic(auto, unfolding(crate::specs::Receive::event_of, crate::specs::Receive::byte_of, crate::specs::Receive::timer_of))]
-fn take_event(state: LinkState, event: LinkEvent, buffer: &mut [u8]) -> LinkStep
+fn take_event(state: LinkState, event: Event, buffer: &mut [u8]) -> LinkStep
     ensures { outcome_of result buffer.new ≡ event_of event state buffer.old }
 {
     match (state.phase, event) {
-        (Phase::Rest, LinkEvent::Byte(b)) => rest_byte(b),
-        (Phase::Rest, LinkEvent::Timer) => rest(LinkAnswer::Nothing),
-        (Phase::Inside(dle), LinkEvent::Byte(b)) => {
+        (Phase::Rest, Event::Byte(b)) => rest_byte(b),
+        (Phase::Rest, Event::Timer) => rest(LinkAnswer::Nothing),
+        (Phase::Inside(dle), Event::Byte(b)) => {
             let checked = LinkState {
                 check: state.check ^ b,
                 ..state
             };
             inside_byte(dle, checked, b, buffer)
         }
-        (Phase::Waiting, LinkEvent::Byte(b)) => waiting_byte(state, b),
-        (Phase::Inside(_) | Phase::Waiting, LinkEvent::Timer) => rest(LinkAnswer::Send(NAK)),
+        (Phase::Waiting, Event::Byte(b)) => waiting_byte(state, b),
+        (Phase::Inside(_) | Phase::Waiting, Event::Timer) => rest(LinkAnswer::Send(NAK)),
     }
 }
 
@@ -193,7 +187,7 @@ pub fn is_against(count: usize, buffer: &[u8]) -> bool
 // One event: its answer and the state after it. It writes at most the place of the buffer at the count.
 // Refused with 1, and all as it was: a count against the buffer.
 #[tactic(auto, unfolding(crate::specs::Receive::receive_of))]
-pub fn receive(state: LinkState, event: LinkEvent, buffer: &mut [u8]) -> LinkStep
+pub fn receive(state: LinkState, event: Event, buffer: &mut [u8]) -> LinkStep
     ensures { outcome_of result buffer.new ≡ receive_of state event buffer.old }
 {
     if is_against(state.count, buffer) {

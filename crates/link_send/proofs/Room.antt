@@ -12,8 +12,8 @@ use Rattle.base.specs.Filling.{Filling, fitted}
 use Rattle.base.proofs.Choice.{pick_by}
 use Rattle.link_frame.specs.Frame.{max_data}
 use Rattle.link_receive.specs.Receive.{Outcome, receive_of, against}
-use Rattle.link_receive.specs.declared.LinkEvent.{LinkEvent}
-use Rattle.link_receive.specs.declared.LinkEvent.TheVariants as heard
+use Rattle.events.specs.declared.Event.{Event}
+use Rattle.events.specs.declared.Event.TheVariants as heard
 use Rattle.link_receive.specs.declared.LinkState.{LinkState}
 use Rattle.link_receive.specs.declared.Phase.{Phase}
 use Rattle.link_receive.proofs.Effects.{Effect, rests, goes_on, stores, event_effect}
@@ -36,7 +36,7 @@ module _ (d buf out : List ℕ) (s : Sender) where
   half_keeps (goes_on r q m c e) short = refl
   half_keeps (stores b c) short = absurd (omega arith)
 
-  heard_keeps : (h : LinkState) (e : LinkEvent) → against h.count buf ≡ false → Keeps (half_of s (receive_of h e buf))
+  heard_keeps : (h : LinkState) (e : Event) → against h.count buf ≡ false → Keeps (half_of s (receive_of h e buf))
   unfolding receive_of
   heard_keeps h e agrees = rw agrees (half_keeps (event_effect e h buf))
 

@@ -10,7 +10,7 @@ use Rattle.link_frame.specs.Frame.{frame_of, max_data}
 use Rattle.link_receive.specs.Receive as half
 use Rattle.link_receive.specs.Receive.{Response, Reaction, Outcome, against, receive_of}
 use Rattle.link_receive.specs.declared.Dle.TheVariants.{NotSeen}
-use Rattle.link_receive.specs.declared.LinkEvent.TheVariants as heard
+use Rattle.events.specs.declared.Event.TheVariants as heard
 use Rattle.link_receive.specs.declared.LinkState.{LinkState}
 use Rattle.link_receive.specs.declared.Phase.{Phase}
 use Rattle.link_receive.specs.declared.Phase.TheVariants.{Rest, Inside, Waiting}

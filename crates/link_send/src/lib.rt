@@ -12,8 +12,9 @@ ghost use Rattle.link_receive.specs.Receive.{response_of, receive_of};
 ghost use Rattle.link_send.specs.Send.{answer_byte, bytes_of, sending, into, begun, fresh, connection_fails, block_fails, collision, opening_byte, awaiting_byte, relaying, after_half, half_of, turn_of, bad_limit, half_against, misset, refusing, reaction_of, outcome_of, send_of};
 ghost use Rattle.link_send.specs.Private.Plans.{parts_of, behind, turn_by, taken_by, finished};
 
+use events::Event;
 use link_frame::{MAX_DATA, control};
-use link_receive::{Dle, LinkAnswer, LinkEvent, LinkState, LinkStep, Phase};
+use link_receive::{Dle, LinkAnswer, LinkState, LinkStep, Phase};
 use refusal::Refusal;
 
 // Numbers of attempts: to connect in one attempt to send the block, and to send the block.
@@ -304,7 +305,7 @@ fn after_half(state: Sender, step: LinkStep) -> Plan
 }
 
 // The half's step, and what follows it.
-fn step_half(state: Sender, half: LinkState, event: LinkEvent, buffer: &mut [u8]) -> Plan
+fn step_half(state: Sender, half: LinkState, event: Event, buffer: &mut [u8]) -> Plan
     ensures { taken_by result buffer.new ≡ half_of state (receive_of half event buffer.old) }
 {
     after_half(state, link_receive::receive(half, event, buffer))
@@ -322,10 +323,10 @@ fn take_event(state: Sender, event: SendEvent, buffer: &mut [u8]) -> Plan
         (SendPhase::Awaiting, SendEvent::Byte(b)) => awaiting_byte(state, b),
         (SendPhase::Awaiting, SendEvent::Timer) => block_fails(state),
         (SendPhase::Receiving(half), SendEvent::Byte(b)) => {
-            step_half(state, half, LinkEvent::Byte(b), buffer)
+            step_half(state, half, Event::Byte(b), buffer)
         }
         (SendPhase::Receiving(half), SendEvent::Timer) => {
-            step_half(state, half, LinkEvent::Timer, buffer)
+            step_half(state, half, Event::Timer, buffer)
         }
         _ => without_message(Going::Nothing, state),
     }

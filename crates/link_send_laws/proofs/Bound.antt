@@ -13,7 +13,7 @@ use Rattle.base.proofs.Choice.{pick_by, pick_either}
 use Rattle.link_frame.specs.ControlBytes.{STX, DLE}
 use Rattle.link_receive.specs.Receive as half
 use Rattle.link_receive.specs.Receive.{Response, Reaction, receive_of}
-use Rattle.link_receive.specs.declared.LinkEvent.TheVariants as heard
+use Rattle.events.specs.declared.Event.TheVariants as heard
 use Rattle.link_receive.specs.declared.LinkState.{LinkState}
 use Rattle.link_receive.specs.declared.Phase.{Phase}
 use Rattle.link_receive.specs.declared.Phase.TheVariants.{Rest, Inside, Waiting}

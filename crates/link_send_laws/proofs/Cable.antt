@@ -13,7 +13,7 @@ use Rattle.link_frame.proofs.Framing.{length_frame}
 use Rattle.link_receive.specs.Receive as half
 use Rattle.link_receive.specs.Receive.{Response, nothing, delivers, at, receive_of}
 use Rattle.link_receive.specs.declared.Dle.TheVariants.{NotSeen}
-use Rattle.link_receive.specs.declared.LinkEvent.TheVariants as heard
+use Rattle.events.specs.declared.Event.TheVariants as heard
 use Rattle.link_receive.specs.declared.LinkState.{LinkState}
 use Rattle.link_receive.specs.declared.Phase.TheVariants.{Rest, Inside}
 use Rattle.link_laws.specs.Feeding.{Fed, after, feed}

@@ -7,7 +7,7 @@ use lib.Dec.{ltb, eqb}
 use Rattle.base.proofs.Choice.{pick_either}
 use Rattle.link_frame.specs.ControlBytes.{STX, DLE}
 use Rattle.link_receive.specs.Receive.{Reaction, receive_of}
-use Rattle.link_receive.specs.declared.LinkEvent.TheVariants as heard
+use Rattle.events.specs.declared.Event.TheVariants as heard
 use Rattle.link_receive.specs.declared.LinkState.{LinkState}
 use Rattle.link_receive.specs.declared.Phase.{Phase}
 use Rattle.link_receive.specs.declared.Phase.TheVariants.{Rest, Inside, Waiting}

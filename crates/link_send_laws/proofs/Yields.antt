@@ -12,8 +12,8 @@ use Rattle.link_frame.specs.ControlBytes.{STX, DLE}
 use Rattle.link_receive.specs.Receive as half
 use Rattle.link_receive.specs.Receive.{Reaction, Outcome, at, against, byte_of, event_of, receive_of}
 use Rattle.link_receive.specs.declared.Dle.TheVariants.{NotSeen}
-use Rattle.link_receive.specs.declared.LinkEvent.{LinkEvent}
-use Rattle.link_receive.specs.declared.LinkEvent.TheVariants as heard
+use Rattle.events.specs.declared.Event.{Event}
+use Rattle.events.specs.declared.Event.TheVariants as heard
 use Rattle.link_receive.specs.declared.LinkState.{LinkState}
 use Rattle.link_receive.specs.declared.Phase.{Phase}
 use Rattle.link_receive.specs.declared.Phase.TheVariants.{Rest, Inside, Waiting}
@@ -41,7 +41,7 @@ not_rest (Inside d) h = refl
 not_rest Waiting h = refl
 
 -- the turn of an event in a yield is what follows the half's step
-yield_turn : (s : Sender) (h : LinkState) (e : LinkEvent) (buf : List ℕ) → s.phase ≡ Receiving h →
+yield_turn : (s : Sender) (h : LinkState) (e : Event) (buf : List ℕ) → s.phase ≡ Receiving h →
     turn_of s (as_event e) buf ≡ half_of s (receive_of h e buf)
 unfolding turn_of receiving_of
 yield_turn s h (heard.Byte b) buf i = ap (λ (p : SendPhase). in_phase p (Byte b) s buf) i
@@ -74,12 +74,12 @@ answered (goes_on r q m c e) h i = absurd (false≢true (sym e ∙ ap is_rest i)
 answered (stores b c) h i = absurd (false≢true (ap is_rest i))
 
 -- a half that agrees with its buffer
-agreeing : (h : LinkState) (e : LinkEvent) (buf : List ℕ) → against h.count buf ≡ false →
+agreeing : (h : LinkState) (e : Event) (buf : List ℕ) → against h.count buf ≡ false →
     Effect h.phase h.count buf (receive_of h e buf)
 unfolding receive_of
 agreeing h e buf good = rw good (event_effect e h buf)
 
-module _ (s : Sender) (h : LinkState) (e : LinkEvent) (d buf out : List ℕ) (i : s.phase ≡ Receiving h) where
+module _ (s : Sender) (h : LinkState) (e : Event) (d buf out : List ℕ) (i : s.phase ≡ Receiving h) where
   abbrev o : Outcome
   o = receive_of h e buf
 

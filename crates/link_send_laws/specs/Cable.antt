@@ -4,7 +4,7 @@ use Rattle.std.specs.Prelude.{ℕ, ◌≤◌, ◌≡◌, List, [], ◌∷◌, �
 use Rattle.base.specs.Places.{placed}
 use Rattle.link_frame.specs.Frame.{frame_of, max_data}
 use Rattle.link_receive.specs.Receive.{Response, Outcome, at, receive_of}
-use Rattle.link_receive.specs.declared.LinkEvent.TheVariants as heard
+use Rattle.events.specs.declared.Event.TheVariants as heard
 use Rattle.link_receive.specs.declared.LinkState.{LinkState}
 use Rattle.link_receive.specs.declared.Phase.TheVariants.{Rest}
 use Rattle.link_laws.specs.RoundTrip.{frame_answers}

@@ -3,8 +3,8 @@
 use Rattle.std.specs.Prelude.{ℕ, ◌≡◌, false, List, [], ◌∷◌, ◌++◌, length}
 use Rattle.link_frame.specs.ControlBytes.{STX}
 use Rattle.link_receive.specs.Receive.{Outcome, at, receive_of}
-use Rattle.link_receive.specs.declared.LinkEvent.{LinkEvent}
-use Rattle.link_receive.specs.declared.LinkEvent.TheVariants as heard
+use Rattle.events.specs.declared.Event.{Event}
+use Rattle.events.specs.declared.Event.TheVariants as heard
 use Rattle.link_receive.specs.declared.LinkState.{LinkState}
 use Rattle.link_receive.specs.declared.Phase.TheVariants.{Rest}
 use Rattle.link_send.specs.Send.{opening, answer_byte, bytes_of, Sending, answer_parts, delivery_of, responding, attempts, into, begun, send_of}
@@ -16,7 +16,7 @@ use Rattle.link_send.specs.declared.SendPhase.TheVariants.{Opening, Receiving}
 use Rattle.link_send_laws.specs.Runs.{Call, after_all, is_refused, is_receiving}
 
 -- an event of the half, as one of the sender
-abbrev pub as_event : LinkEvent → SendEvent
+abbrev pub as_event : Event → SendEvent
 as_event (heard.Byte b) = Byte b
 as_event heard.Timer = Timer
 
@@ -53,7 +53,7 @@ pub record AsByItself (h : LinkState) (s : Sender) (d : List ℕ) (o : Outcome) 
 -- In a yield the half does what it does by itself, wherever the call is not refused.
 abbrev pub HalfByItself : Type 0
 HalfByItself =
-    (s : Sender) (h : LinkState) (e : LinkEvent) (d buf out : List ℕ) → s.phase ≡ Receiving h →
+    (s : Sender) (h : LinkState) (e : Event) (d buf out : List ℕ) → s.phase ≡ Receiving h →
     is_refused (send_of s (as_event e) d buf out).outcome.reaction.response ≡ false →
     AsByItself h s d (receive_of h e buf) (send_of s (as_event e) d buf out)
 

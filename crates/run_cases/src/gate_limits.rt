@@ -1,8 +1,9 @@
 // The calls of the gate bus at their limits.
+use events::Event;
 use crate::limits::Output;
 use gate_answers::BarrierAnswer;
 use gate_commands::{GateRegisters, OperateAnswer};
-use gate_receive::{GateAnswer, GateEvent, GateState};
+use gate_receive::{GateAnswer, GateState};
 use gate_refusal::GateRefusal;
 use show::{BEFORE, Kept, Refused, Start, first, first_other};
 use std::{fmt, io};
@@ -96,7 +97,7 @@ fn byte_case(
     let mut room = [0u8; 254];
     let store = &mut all[..lent.min(254)];
     let out = &mut room[..places.min(254)];
-    let step = gate_receive::receive(own, state, store, GateEvent::Byte(b), out);
+    let step = gate_receive::receive(own, state, store, Event::Byte(b), out);
     let kept = Kept {
         buffer: &all,
         from: 0,

@@ -1,17 +1,18 @@
 // The link's calls at their limits.
-use link_receive::{Dle, LinkAnswer, LinkEvent, LinkState, Phase};
+use events::Event;
+use link_receive::{Dle, LinkAnswer, LinkState, Phase};
 use refusal::{Numbered, Refusal};
 use show::{BEFORE, Bytes, Half, Kept, Refused, Written, first};
 use std::{fmt, io};
 
 #[derive(Clone, Copy)]
-struct ShownEvent(LinkEvent);
+struct ShownEvent(Event);
 
 impl fmt::Display for ShownEvent {
     fn fmt<W: fmt::Write>(&self, f: &mut fmt::Formatter<W>) -> fmt::Result {
         match self.0 {
-            LinkEvent::Byte(b) => write!(f, " {b:02X}"),
-            LinkEvent::Timer => write!(f, " timer"),
+            Event::Byte(b) => write!(f, " {b:02X}"),
+            Event::Timer => write!(f, " timer"),
         }
     }
 }
@@ -76,7 +77,7 @@ fn event_case(
     rt: &impl Print,
     phase: Phase,
     count: usize,
-    event: LinkEvent,
+    event: Event,
     places: usize,
 ) -> io::Result<()> {
     let state = LinkState {
@@ -105,18 +106,18 @@ fn event_case(
 // A byte of each kind, and the timer, where there is room; then the same phase at the limits of its buffer.
 fn phase_cases(rt: &impl Print, phase: Phase) -> io::Result<()> {
     for b in [0x02, 0x03, 0x10, 0x15, 0x44] {
-        event_case(rt, phase, 2, LinkEvent::Byte(b), 3)?;
+        event_case(rt, phase, 2, Event::Byte(b), 3)?;
     }
     for (count, event, places) in [
-        (2, LinkEvent::Timer, 3),
-        (3, LinkEvent::Byte(0x10), 3),
-        (3, LinkEvent::Byte(0x60), 3),
-        (4, LinkEvent::Byte(0x10), 3),
-        (4, LinkEvent::Timer, 3),
-        (1023, LinkEvent::Byte(0x10), 1025),
-        (1024, LinkEvent::Byte(0x10), 1025),
-        (1024, LinkEvent::Byte(0x60), 1025),
-        (1025, LinkEvent::Byte(0x10), 1025),
+        (2, Event::Timer, 3),
+        (3, Event::Byte(0x10), 3),
+        (3, Event::Byte(0x60), 3),
+        (4, Event::Byte(0x10), 3),
+        (4, Event::Timer, 3),
+        (1023, Event::Byte(0x10), 1025),
+        (1024, Event::Byte(0x10), 1025),
+        (1024, Event::Byte(0x60), 1025),
+        (1025, Event::Byte(0x10), 1025),
     ] {
         event_case(rt, phase, count, event, places)?;
     }

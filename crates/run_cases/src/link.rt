@@ -1,14 +1,15 @@
 // The link on the screen: each byte that is fed to a receiving half, and its answer.
+use events::Event;
 use crate::limits::ShownAnswer;
 use link_frame::control::STX;
-use link_receive::{LinkEvent, LinkState};
+use link_receive::LinkState;
 use show::{Written, first};
 use std::io;
 use std::io::Read;
 
 // Feeds one byte to the half, and shows byte and answer on a line.
 fn feed_byte(rt: &impl Print, state: LinkState, b: u8, buffer: &mut [u8]) -> io::Result<LinkState> {
-    let step = link_receive::receive(state, LinkEvent::Byte(b), buffer);
+    let step = link_receive::receive(state, Event::Byte(b), buffer);
     println!(rt;
         "fed {b:02X}{}",
         ShownAnswer {

@@ -7,8 +7,8 @@ use Rattle.gate_telegram.specs.Telegram.{max_data, telegram_writing}
 use Rattle.gate_receive.specs.Receive.{Response, nothing, telegram, token, refuses, with, to, receive_of}
 use Rattle.gate_receive.specs.declared.GateState.{GateState}
 use Rattle.gate_receive.specs.declared.GateState.TheVariants.{Rest, AtDestination, AtSource, AtLength, AtData, AtLowCheck, OthersSource, OthersLength, Dropping}
-use Rattle.gate_receive.specs.declared.GateEvent.{GateEvent}
-use Rattle.gate_receive.specs.declared.GateEvent.TheVariants.{Byte, Timer}
+use Rattle.events.specs.declared.Event.{Event}
+use Rattle.events.specs.declared.Event.TheVariants.{Byte, Timer}
 use Rattle.gate_commands.specs.Commands.{Verdict, answers, operation, operating, command_of}
 use Rattle.gate_commands.specs.Commands as commands
 use Rattle.gate_commands.specs.declared.GateRegisters.{GateRegisters}
@@ -60,9 +60,9 @@ pub data GateCase : Type 0 where
   -- afterwards; the receiver is fresh again
   hears : ℕ → ℕ → List ℕ → List Response → List ℕ → GateCase
   -- an own address, a state, an event, the answer, and the state afterwards; store and output stay
-  turns : ℕ → GateState → GateEvent → Response → GateState → GateCase
+  turns : ℕ → GateState → Event → Response → GateState → GateCase
   -- the places of a store with which every event is refused with 1
-  no_store : ℕ → GateEvent → GateCase
+  no_store : ℕ → Event → GateCase
   -- registers, an operating command, what is answered, and the registers afterwards
   operates : GateRegisters → List ℕ → Verdict → GateRegisters → GateCase
   -- an answer that is written as these bytes, and read from them
