@@ -1,11 +1,13 @@
 // The answer of every call for C, as one number: a value in its low half and a kind above it, which is 0 for done, 255 for "not
-// mine", else the number of the refusal. include/hanraquin.h says it for the programmer.
+// mine", else the number of the refusal; and the events of a receiver as numbers. include/hanraquin.h says it for the programmer.
 #![tactic(auto)]
 
 ghost use Rattle.std.specs.Prelude.{◌≡◌};
 ghost use Rattle.base.specs.Filling.{given_by};
 ghost use Rattle.c_answer.specs.Answer.{refused, of_writing};
+ghost use Rattle.c_answer.specs.Event.{event_at};
 
+use events::Event;
 use refusal::Numbered;
 
 // What one step of the kind counts in an answer.
@@ -28,5 +30,20 @@ pub fn of_writing<R: Numbered>(answer: Result<usize, R>) -> u64
     match answer {
         Ok(n) => n as u64,
         Err(r) => refused(r),
+    }
+}
+
+// The event that is the timer.
+pub const TIMER: u32 = 256;
+
+// The event with a number, up to that of the timer: a byte, or the timer.
+#[tactic(auto, unfolding(crate::specs::Event::event_at))]
+pub fn event_at(n: u32) -> Event
+    ensures { result ≡ event_at n }
+{
+    if n < TIMER {
+        Event::Byte(n as u8)
+    } else {
+        Event::Timer
     }
 }

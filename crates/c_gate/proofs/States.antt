@@ -14,7 +14,8 @@ use mir.Val.{Fits}
 use Rattle.gate_receive.specs.Receive.{receive_of}
 use Rattle.gate_receive.specs.declared.GateState.{GateState}
 use Rattle.c_answer.specs.Answer.{refused}
-use Rattle.c_gate.specs.Bus.{state_words, state_at, fits, same, is_state, timer, event_at, received, received_by, receive_call}
+use Rattle.c_answer.specs.Event.{timer, event_at}
+use Rattle.c_gate.specs.Bus.{state_words, state_at, fits, same, is_state, received, received_by, receive_call}
 
 -- what fitting numbers are
 pub record Fitting (w : List ℕ) : Type 0 where

@@ -6,8 +6,7 @@ use Rattle.gate_telegram.specs.Telegram.{telegram_writing}
 use Rattle.gate_receive.specs.Receive.{Response, nothing, telegram, token, refuses, Outcome, receive_of}
 use Rattle.gate_receive.specs.declared.GateState.{GateState}
 use Rattle.gate_receive.specs.declared.GateState.TheVariants.{Rest, AtDestination, AtSource, AtLength, AtData, AtLowCheck, OthersSource, OthersLength, Dropping}
-use Rattle.events.specs.declared.Event.{Event}
-use Rattle.events.specs.declared.Event.TheVariants.{Byte, Timer}
+use Rattle.c_answer.specs.Event.{timer, event_at}
 use Rattle.c_answer.specs.Answer.{done, refused, Written, written_by}
 
 -- hanraquin_gate_write: as telegram_writing says
@@ -58,13 +57,6 @@ same (a ∷ rest) (b ∷ bs) = eqb a b && same rest bs
 -- a number that the phase does not have is 0
 unfoldable pub is_state : List ℕ → Bool
 is_state w = fits w && same w (state_words (state_at w))
-
--- the event that is the timer; no event is larger
-abbrev pub timer : ℕ
-timer = 256
-
-unfoldable pub event_at : ℕ → Event
-event_at n = pick (ltb n timer) (Byte n) Timer
 
 -- the value tells what came: 0 nothing; 65536, 256 times the source and the number of data bytes for a telegram; 131072 and
 -- the source for a token

@@ -5,7 +5,8 @@ use Rattle.gate_receive.specs.Receive.{refuses, to, with, receive_of}
 use Rattle.gate_receive.specs.declared.GateState.{GateState}
 use Rattle.gate_commands.specs.Commands.{answers, operating}
 use Rattle.c_answer.specs.Answer.{refused}
-use Rattle.c_gate.specs.Bus.{state_words, state_at, fits, is_state, timer, event_at, received, receive_call}
+use Rattle.c_answer.specs.Event.{timer, event_at}
+use Rattle.c_gate.specs.Bus.{state_words, state_at, fits, is_state, received, receive_call}
 use Rattle.c_gate.specs.Commands.{is_bits, registers_at, of_verdict, operated, operate_call}
 
 -- the numbers of a state whose fields fit are a state

@@ -8,11 +8,11 @@ ghost use Rattle.gate_receive.specs.Receive.{response_of};
 ghost use Rattle.gate_commands.specs.Commands.{verdict_of};
 ghost use Rattle.gate_answers.specs.Answers.{reading_of, position_at};
 ghost use Rattle.c_answer.specs.Answer.{done, written};
-ghost use Rattle.c_gate.specs.Bus.{write_call, state_words, state_at, fits, is_state, event_at, of_response, received, receive_call};
+ghost use Rattle.c_gate.specs.Bus.{write_call, state_words, state_at, fits, is_state, of_response, received, receive_call};
 ghost use Rattle.c_gate.specs.Commands.{is_bits, bits_at, bit_numbers, of_verdict, operated, operate_call, write_command_call};
 ghost use Rattle.c_gate.specs.Answers.{answer_at, write_answer_call, kind_of, number_in, answer_told, read_answer_call};
 
-use events::Event;
+use c_answer::TIMER;
 use gate_answers::{ACK, BUSY, BarrierAnswer, COUNT, NAK, POSITION, SYN};
 use gate_commands::{COMMANDS, GateRegisters, OperateAnswer};
 use gate_receive::{GateAnswer, GateState};
@@ -151,21 +151,6 @@ fn state_from(words: &[u64]) -> Option<GateState>
     }
 }
 
-// The event that is the timer.
-const TIMER: u32 = 256;
-
-// The event with a number: a byte, or the timer.
-#[tactic(auto, unfolding(crate::specs::Bus::event_at))]
-fn event_at(n: u32) -> Event
-    ensures { result ≡ event_at n }
-{
-    if n < TIMER {
-        Event::Byte(n as u8)
-    } else {
-        Event::Timer
-    }
-}
-
 // The answer to an event.
 fn of_answer(answer: Result<GateAnswer, GateRefusal>) -> u64
     ensures { result ≡ of_response (response_of answer) }
@@ -197,7 +182,7 @@ pub fn hanraquin_gate_receive(
     let Some(before) = state_from(state) else {
         return c_answer::refused(GateRefusal::Setup);
     };
-    let step = gate_receive::receive(own, before, store, event_at(event), out);
+    let step = gate_receive::receive(own, before, store, c_answer::event_at(event), out);
     state.copy_from_slice(&words_of(step.state));
     of_answer(step.answer)
 }

@@ -10,7 +10,8 @@ use lib.Dec.{eqb, leb}
 use lib.ListN.{length, get_or}
 use Rattle.link_receive.specs.Receive.{against, receive_of}
 use Rattle.c_answer.specs.Answer.{refused}
-use Rattle.c_link.specs.Link.{dle_at, phase_number, phase_at, is_state, state_words, state_at, is_event, event_at, received, received_by, receive_call}
+use Rattle.c_answer.specs.Event.{event_at}
+use Rattle.c_link.specs.Link.{dle_at, phase_number, phase_at, is_state, state_words, state_at, is_event, received, received_by, receive_call}
 
 -- what a state is
 pub record State (words : List ℕ) : Type 0 where

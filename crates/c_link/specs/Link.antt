@@ -9,8 +9,7 @@ use Rattle.link_receive.specs.declared.Dle.TheVariants.{Seen, NotSeen}
 use Rattle.link_receive.specs.declared.Phase.{Phase}
 use Rattle.link_receive.specs.declared.Phase.TheVariants.{Rest, Inside, Waiting}
 use Rattle.link_receive.specs.declared.LinkState.{LinkState}
-use Rattle.events.specs.declared.Event.{Event}
-use Rattle.events.specs.declared.Event.TheVariants.{Byte, Timer}
+use Rattle.c_answer.specs.Event.{event_at}
 use Rattle.c_answer.specs.Answer.{done, refused, Written, written_by}
 
 -- hanraquin_frame: as framing says
@@ -45,10 +44,6 @@ is_state words = eqb (length words) 3 && leb (get_or words 0 0) 3 && leb (get_or
 -- whether a number is an event: a byte, or 256 for the timer. No larger number is one
 unfoldable pub is_event : ℕ → Bool
 is_event n = leb n 256
-
--- the event, for the numbers that `is_event` takes
-unfoldable pub event_at : ℕ → Event
-event_at n = pick (ltb n 256) (Byte n) Timer
 
 -- the value tells what to do: 0 nothing; 256 and the byte to send; 65536 and the length of the message, with which a DLE is sent
 abbrev pub of_response : Response → ℕ

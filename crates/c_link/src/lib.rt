@@ -5,10 +5,11 @@
 ghost use Rattle.std.specs.Prelude.{◌≡◌, true, length};
 ghost use Rattle.link_receive.specs.Receive.{response_of, receive_of};
 ghost use Rattle.c_answer.specs.Answer.{written};
-ghost use Rattle.c_link.specs.Link.{frame_call, dle_at, phase_number, phase_at, state_words, state_at, is_state, event_at, of_response, received, received_by, receive_call};
+ghost use Rattle.c_answer.specs.Event.{event_at};
+ghost use Rattle.c_link.specs.Link.{frame_call, dle_at, phase_number, phase_at, state_words, state_at, is_state, of_response, received, received_by, receive_call};
 ghost use Rattle.c_link.specs.Private.Small.{SmallResponse};
 
-use events::Event;
+use c_answer::TIMER;
 use link_receive::{Dle, LinkAnswer, LinkState, Phase};
 use refusal::Refusal;
 
@@ -48,21 +49,6 @@ pub fn phase_number(phase: Phase) -> u64
         Phase::Inside(Dle::NotSeen) => 1,
         Phase::Inside(Dle::Seen) => 2,
         Phase::Waiting => 3,
-    }
-}
-
-// The event that is the timer.
-const TIMER: u32 = 256;
-
-// The event with a number: a byte, or the timer.
-#[tactic(auto, unfolding(crate::specs::Link::event_at))]
-fn event_at(n: u32) -> Event
-    ensures { result ≡ event_at n }
-{
-    if n < TIMER {
-        Event::Byte(n as u8)
-    } else {
-        Event::Timer
     }
 }
 
@@ -108,7 +94,7 @@ fn receive_at(words: &mut [u64], event: u32, buffer: &mut [u8]) -> u64
         check: words[2] as u8,
         phase: phase_at(words[0]),
     };
-    let step = link_receive::receive(before, event_at(event), buffer);
+    let step = link_receive::receive(before, c_answer::event_at(event), buffer);
     put_state(step.state, words);
     of_response(step.answer)
 }
