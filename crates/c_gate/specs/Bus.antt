@@ -1,6 +1,6 @@
 -- The calls of the bus: hanraquin_gate_write and hanraquin_gate_receive.
 -- Assumes nothing.
-use Rattle.std.specs.Prelude.{ℕ, ◌+◌, ◌*◌, Bool, true, false, ◌&&◌, List, [], ◌∷◌, eqb, leb, ltb, length, get_or}
+use Rattle.std.specs.Prelude.{ℕ, ◌+◌, ◌*◌, Bool, true, false, ◌&&◌, List, [], ◌∷◌, eqb, leb, length, get_or}
 use Rattle.base.specs.Choice.{pick}
 use Rattle.gate_telegram.specs.Telegram.{telegram_writing}
 use Rattle.gate_receive.specs.Receive.{Response, nothing, telegram, token, refuses, Outcome, receive_of}

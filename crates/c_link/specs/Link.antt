@@ -1,6 +1,6 @@
 -- The calls of the link: hanraquin_frame and hanraquin_receive.
 -- Assumes nothing.
-use Rattle.std.specs.Prelude.{ℕ, ◌+◌, Bool, not, ◌&&◌, List, [], ◌∷◌, eqb, leb, ltb, length, get_or}
+use Rattle.std.specs.Prelude.{ℕ, ◌+◌, Bool, not, ◌&&◌, List, [], ◌∷◌, eqb, leb, length, get_or}
 use Rattle.base.specs.Choice.{pick}
 use Rattle.link_frame.specs.Frame.{framing}
 use Rattle.link_receive.specs.Receive.{Response, nothing, sends, delivers, refuses, Outcome, at, against, receive_of}
