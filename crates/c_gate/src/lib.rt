@@ -257,7 +257,7 @@ fn position_at(number: i32) -> Result<BarrierAnswer, GateRefusal>
     }
 }
 
-// The answer with a kind and a number.
+// The answer with a kind and a number. Functions, and no `From`, here and below: neither type is of this crate.
 #[tactic(auto, unfolding(crate::specs::Answers::answer_at))]
 fn answer_at(kind: u8, number: i32) -> Result<BarrierAnswer, GateRefusal>
     ensures { reading_of result ≡ answer_at kind number }

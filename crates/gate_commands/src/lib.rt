@@ -79,7 +79,7 @@ fn pair_after(level: bool, function: GateFunction, edge: bool) -> GatePair
     }
 }
 
-// The function of a byte, if it has one.
+// The function of a byte, if it has one. `TryFrom` would be this match, and a type for its error.
 #[tactic(auto, unfolding(crate::specs::Commands::function_of))]
 fn function_of(b: u8) -> Option<GateFunction>
     ensures { result ≡ function_of b }

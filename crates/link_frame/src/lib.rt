@@ -52,7 +52,7 @@ fn count_dles(part: &[u8; PART]) -> u8
     n
 }
 
-// Writes data with each DLE doubled, its first byte at place from, and gives the place behind it.
+// Writes data with each DLE doubled, its first byte at place from, and gives the place behind it, which goes on by one or by two.
 fn write_doubling(part: &[u8], out: &mut [u8], from: usize) -> usize
     requires { from + length (doubled part.now) ≤ length out.old }
     ensures { writing_of result out.new ≡ writing from (doubled part.now) out.old }

@@ -30,7 +30,8 @@ fn note_address(seen: &mut [bool; 256], a: u8) -> bool
     is_address(a) && !before
 }
 
-// Whether every number is an address, and no two are equal.
+// Whether every number is an address, and no two are equal. By a loop: of a closure that changes what it captures, as one for `all`
+// would change the flags, the library says nothing.
 pub fn distinct_addresses(list: &[u8]) -> bool
     ensures { result ≡ distinct_addresses list.now }
 {
@@ -51,7 +52,7 @@ pub fn names_somebody(b: &[u8]) -> bool
 }
 
 // The block rule: a 00 in it, the 00s one run in the ring, and the stations different addresses. In the ring the last entry
-// stands before the first.
+// stands before the first. One pass: the 00s, where they end, and the addresses are looked at together.
 pub fn good_block(b: &[u8]) -> bool
     ensures { result ≡ good_block b.now }
 {

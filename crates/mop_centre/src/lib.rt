@@ -110,7 +110,7 @@ pub fn write_request(
     mop_header::write(header, &block, &body[..n], out)
 }
 
-// The stations of a header's block, in order.
+// The stations of a header's block, in order. The place counts these alone, and not the 00s.
 fn route_of(header: Header, block: &[u8]) -> [u8; MAX_ROUTE]
     requires { length (stations (head_of header block.now).block) ≤ max_route }
     ensures { result ≡ route_places (stations (head_of header block.now).block) }

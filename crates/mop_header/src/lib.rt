@@ -159,7 +159,8 @@ impl Header {
         self.block_start() + self.count as usize
     }
 
-    // The entry of the block at a place; 00 where there is none.
+    // The entry of the block at a place; 00 where there is none. An iterator over the ring would be a type of its own, with more to
+    // prove than the loops that ask for one place after the other.
     pub fn entry(self, block: &[u8], place: usize) -> u8
         ensures { result ≡ get_or (head_of self block.now).block place 0 }
     {

@@ -26,7 +26,7 @@ use std::ops::ControlFlow;
 // The places of the output that a report asks for: more than the longest text has characters.
 const REPORT_OUTPUT: usize = 6500;
 
-// A capital hex digit.
+// A capital hex digit. Digits are made by hand: each character is promised at its place in the output, which no formatter does.
 fn hex_digit(n: u8) -> u8
     requires { n < 16 }
     ensures { result ≡ hex_digit n }

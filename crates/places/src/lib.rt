@@ -9,7 +9,8 @@ ghost use Rattle.base.specs.Filling.{fitted, fitting_of};
 pub fn put(bytes: &[u8], out: &mut [u8], at: usize)
     ensures { out.new ≡ sets out.old at bytes.now }
 {
-    // By `copy_from_slice` the archive for C would need memmove too.
+    // By `copy_from_slice`, of which the length is not known here, the archive for C would need memmove too; and of places lent by
+    // `iter_mut` a proof knows only their number.
     for (place, &b) in (at..out.len()).zip(bytes) {
         out[place] = b;
     }

@@ -1,6 +1,6 @@
 // The calls of the gate bus at their limits.
-use events::Event;
 use crate::limits::Output;
+use events::Event;
 use gate_answers::BarrierAnswer;
 use gate_commands::{GateRegisters, OperateAnswer};
 use gate_receive::{GateAnswer, GateState};

@@ -1,6 +1,6 @@
 // The link on the screen: each byte that is fed to a receiving half, and its answer.
-use events::Event;
 use crate::limits::ShownAnswer;
+use events::Event;
 use link_frame::control::STX;
 use link_receive::LinkState;
 use show::{Written, first};

@@ -20,12 +20,9 @@ pub(crate) fn tables_before() -> [u16; PLACES] {
 // The first place, from n on, whose value changed; the length where there is none. It is no `first_other`, since what a register was
 // depends on its place.
 fn first_changed(s: &[u16], n: usize) -> usize {
-    for i in n..s.len() {
-        if s[i] != value_before(i) {
-            return i;
-        }
-    }
-    s.len()
+    (n..s.len())
+        .find(|&i| s[i] != value_before(i))
+        .unwrap_or(s.len())
 }
 
 // How far the registers are as before. If that is not to the end: the value there, and how far those behind it are as

@@ -25,7 +25,8 @@ pub fn last<T>(s: &[T], n: usize) -> &[T]
     &s[s.len().saturating_sub(n)..]
 }
 
-// The first place, from n on, that does not hold b; the length where there is none.
+// The first place, from n on, that does not hold b; the length where there is none. By index: with `position` two of the promises
+// stayed open.
 pub fn first_other(s: &[u8], n: usize, b: u8) -> usize
     ensures bound { result ≤ length s.now }
     ensures before { (k : ℕ) → n ≤ k → k < result → slice_index s.now k ≡ b }
