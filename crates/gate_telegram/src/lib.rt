@@ -1,7 +1,7 @@
 // The telegram of the gate bus, and the call that writes it.
 #![tactic(auto)]
 
-ghost use Rattle.std.specs.Prelude.{◌≡◌, ◌+◌, ◌≤◌, length};
+ghost use Rattle.std.specs.Prelude.{◌≡◌, ◌+◌, ◌≤◌, length, Ok};
 ghost use Rattle.base.specs.Filling.{written};
 ghost use Rattle.gate_refusal.specs.Writing.{filling_of};
 ghost use Rattle.gate_telegram.specs.Telegram.{slave_token, bad_addresses, telegram_of, telegram_writing};
@@ -37,15 +37,10 @@ fn are_bad(destination: u8, source: u8, n: usize) -> bool
     destination == RESERVED || source == RESERVED || is_slave_token(destination, source, n)
 }
 
-// Writes the telegram, for which the output has room.
-fn write_telegram(
-    destination: u8,
-    source: u8,
-    src: &[u8],
-    out: &mut [u8],
-) -> Result<usize, GateRefusal>
+// Writes the telegram, for which the output has room, and gives its length.
+fn write_telegram(destination: u8, source: u8, src: &[u8], out: &mut [u8]) -> usize
     requires { (length src.now ≤ 253) × (length src.now + 6 ≤ length out.old) }
-    ensures { filling_of result out.new ≡ written (telegram_of destination source src.now) out.old }
+    ensures { filling_of (Ok result) out.new ≡ written (telegram_of destination source src.now) out.old }
 {
     let n = src.len();
     let head = [START_BYTE, destination, source, n as u8];
@@ -53,7 +48,7 @@ fn write_telegram(
     places::put(&head, out, 0);
     places::put(src, out, 4);
     words::put_words(&[check], out, n + 4);
-    Ok(n + 6)
+    n + 6
 }
 
 // The telegram from source to destination with the data, in the first places of out, and its length; the other places keep
@@ -72,5 +67,5 @@ pub fn write(destination: u8, source: u8, src: &[u8], out: &mut [u8]) -> Result<
     if out.len() < n + 6 {
         return Err(GateRefusal::OutputShort);
     }
-    write_telegram(destination, source, src, out)
+    Ok(write_telegram(destination, source, src, out))
 }
