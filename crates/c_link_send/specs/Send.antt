@@ -14,6 +14,7 @@ use Rattle.link_send.specs.declared.Sender.{Sender}
 use Rattle.link_send.specs.declared.SendEvent.{SendEvent}
 use Rattle.link_send.specs.declared.SendEvent.TheVariants.{Start, Byte, Timer}
 use Rattle.c_answer.specs.Answer.{done, refused}
+use Rattle.c_answer.specs.Event.{timer}
 use Rattle.c_link.specs.Link.{state_words, state_at, is_state}
 
 -- a priority as a number, and the other way round
@@ -78,10 +79,7 @@ is_half n h = pick (eqb n 3) (is_state h) (eqb (get_or h 0 0) 0 && eqb (get_or h
 unfoldable pub is_sender : List ℕ → Bool
 is_sender w = eqb (length w) 9 && leb (get_or w 0 0) 5 && leb (get_or w 3 0) 1 && is_half (get_or w 0 0) (drop 6 w)
 
--- the numbers of the events that are no bytes
-abbrev pub timer : ℕ
-timer = 256
-
+-- the event that is the start, behind that of the timer
 abbrev pub start : ℕ
 start = 257
 

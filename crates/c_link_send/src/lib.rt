@@ -6,6 +6,7 @@ ghost use Rattle.link_send.specs.Send.{response_of, send_of};
 ghost use Rattle.c_link_send.specs.Send.{priority_number, priority_at, send_phase_number, send_phase_at, half_in, sender_words, sender_at, is_half, is_sender, event_at, of_response, at_sender, at_sender_by, send_call};
 ghost use Rattle.c_link_send.specs.Private.Small.{SmallResponse};
 
+use c_answer::TIMER;
 use link_receive::LinkState;
 use link_send::{Attempts, Priority, SendAnswer, SendEvent, SendPhase, Sender};
 use refusal::Refusal;
@@ -146,10 +147,7 @@ fn put_sender(state: Sender, words: &mut [u64])
     words[8] = half.check as u64;
 }
 
-// The event that is the timer.
-const TIMER: u32 = 256;
-
-// The event that is the start.
+// The event that is the start. The one below it is the timer.
 const START: u32 = 257;
 
 // The event with a number: a byte, the timer, or the start.
