@@ -20,7 +20,7 @@ pub fn hanraquin_frame(src: &[u8], out: &mut [u8]) -> u64
     c_answer::of_writing(link_frame::frame(src, out))
 }
 
-// Whether a DLE was seen, in a phase inside a block.
+// Whether a DLE was seen, in a phase inside a block. Functions, and no `From`, here and below: neither type is of this crate.
 #[tactic(auto, unfolding(crate::specs::Link::dle_at))]
 fn dle_at(n: u64) -> Dle
     ensures { result ≡ dle_at n }
@@ -28,7 +28,7 @@ fn dle_at(n: u64) -> Dle
     if n == 2 { Dle::Seen } else { Dle::NotSeen }
 }
 
-// The phase with a number. A function, and no `From`: neither type is of this crate.
+// The phase with a number.
 #[tactic(auto, unfolding(crate::specs::Link::phase_at))]
 pub fn phase_at(n: u64) -> Phase
     ensures { result ≡ phase_at n }
