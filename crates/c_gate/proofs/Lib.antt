@@ -1,4 +1,3 @@
-pub mod Options
 pub mod States
 pub mod Bits
 pub mod Answers

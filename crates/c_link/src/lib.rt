@@ -2,8 +2,9 @@
 // programmer.
 #![tactic(auto)]
 
-ghost use Rattle.std.specs.Prelude.{◌≡◌, true, length};
-ghost use Rattle.link_receive.specs.Receive.{response_of, receive_of};
+ghost use Rattle.std.specs.Prelude.{◌≡◌, not, ◌&&◌, Some, None, get_or};
+ghost use Rattle.base.specs.Choice.{pick};
+ghost use Rattle.link_receive.specs.Receive.{response_of, against};
 ghost use Rattle.c_answer.specs.Answer.{written};
 ghost use Rattle.c_answer.specs.Event.{event_at};
 ghost use Rattle.c_link.specs.Link.{frame_call, dle_at, phase_number, phase_at, state_words, state_at, is_state, of_response, received, received_by, receive_call};
@@ -65,38 +66,38 @@ fn of_response(answer: Result<LinkAnswer, Refusal>) -> u64
     }
 }
 
-// Whether numbers are a state.
-#[tactic(auto, unfolding(crate::specs::Link::is_state))]
-fn is_state(words: &[u64]) -> bool
-    ensures { result ≡ is_state words.now }
+// The largest number of a phase.
+const LAST_PHASE: u64 = 3;
+
+// How many numbers a state has.
+const STATE: usize = 3;
+
+// The state that numbers stand for, if they are those of a state, and it is not against its buffer.
+fn state_from(words: &[u64; STATE], buffer: &[u8]) -> Option<LinkState>
+    ensures { result ≡ pick (is_state words.now && not (against (get_or words.now 1 0) buffer.now)) (Some (state_at words.now)) None }
 {
-    words.len() == 3 && words[0] <= 3 && words[2] <= 255
+    let [phase, count, check] = *words;
+    // The half would refuse a state against its buffer too. Refused here, it is out of the way of every byte that is received.
+    if phase <= LAST_PHASE && check <= 255 && !link_receive::is_against(count as usize, buffer) {
+        Some(LinkState {
+            count: count as usize,
+            check: check as u8,
+            phase: phase_at(phase),
+        })
+    } else {
+        None
+    }
 }
 
-// Writes a state as three numbers, to a slice, which is what C lends.
-fn put_state(state: LinkState, words: &mut [u64])
-    requires { length words.old ≡ 3 }
-    ensures { words.new ≡ state_words state }
+// The three numbers of a state.
+fn words_of(state: LinkState) -> [u64; STATE]
+    ensures { result ≡ state_words state }
 {
-    words[0] = phase_number(state.phase);
-    words[1] = state.count as u64;
-    words[2] = state.check as u64;
-}
-
-// One event at a state that numbers stand for.
-#[tactic(auto, using(crate::proofs::States::three_long))]
-fn receive_at(words: &mut [u64], event: u32, buffer: &mut [u8]) -> u64
-    requires { is_state words.old ≡ true }
-    ensures { received result words.new buffer.new ≡ received_by (receive_of (state_at words.old) (event_at event) buffer.old) }
-{
-    let before = LinkState {
-        count: words[1] as usize,
-        check: words[2] as u8,
-        phase: phase_at(words[0]),
-    };
-    let step = link_receive::receive(before, c_answer::event_at(event), buffer);
-    put_state(step.state, words);
-    of_response(step.answer)
+    [
+        phase_number(state.phase),
+        state.count as u64,
+        state.check as u64,
+    ]
 }
 
 // One event at the receiving half whose state is three numbers, phase, count and check: link_receive::receive. The value is 0
@@ -106,9 +107,16 @@ fn receive_at(words: &mut [u64], event: u32, buffer: &mut [u8]) -> u64
 pub fn hanraquin_receive(state: &mut [u64], event: u32, buffer: &mut [u8]) -> u64
     ensures { received result state.new buffer.new ≡ receive_call state.old event buffer.old }
 {
-    // The half would refuse a state against its buffer too. Refused here, it is out of the way of every byte that is received.
-    if TIMER < event || !is_state(state) || link_receive::is_against(state[1] as usize, buffer) {
+    if TIMER < event {
         return c_answer::refused(Refusal::Setup);
     }
-    receive_at(state, event, buffer)
+    let Some(words) = state.as_mut_array() else {
+        return c_answer::refused(Refusal::Setup);
+    };
+    let Some(before) = state_from(words, buffer) else {
+        return c_answer::refused(Refusal::Setup);
+    };
+    let step = link_receive::receive(before, c_answer::event_at(event), buffer);
+    *words = words_of(step.state);
+    of_response(step.answer)
 }

@@ -2,7 +2,7 @@
 -- Assumes nothing.
 use mathlib.Core.Path.{sym, ap, ◌∙◌}
 use Rattle.c_gate.specs.Commands.{operated_by}
-use Rattle.c_gate.proofs.Options.{none_behind, some_behind}
+use Rattle.c_answer.proofs.Options.{none_behind, some_behind}
 use Rattle.c_gate.proofs.Bits.{bad_levels, bad_edges, bits_ten, of_bits}
 use Rattle.c_gate.proofs.hanraquin_gate_operate.Goals as goal
 

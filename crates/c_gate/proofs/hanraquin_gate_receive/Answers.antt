@@ -5,7 +5,7 @@ use mathlib.Core.Path.{◌≡◌, sym, ap, ◌∙◌}
 use lib.ListN.{length}
 use borrow.Author.Rules.{rules}
 use Rattle.c_gate.specs.Bus.{received_by}
-use Rattle.c_gate.proofs.Options.{none_behind, some_behind}
+use Rattle.c_answer.proofs.Options.{none_behind, some_behind}
 use Rattle.c_gate.proofs.States.{fits_parts, state_parts, no_event, no_state, at_state}
 use Rattle.c_gate.proofs.hanraquin_gate_receive.Goals as goal
 
