@@ -5,10 +5,9 @@ use mathlib.Core.Bool.{Bool, true, false, ◌&&◌, and-false, and-eq-true_iff}
 use mathlib.Core.List.{List, [], ◌∷◌}
 use Prim.Native.Nat.{ℕ, ◌≤◌, ◌<◌}
 use native.Mathlib.Omega.{arith}
-use borrow.Author.Tests.{eqb-true, leb-true, le-leb, lt-leb}
+use borrow.Author.Tests.{eqb-true, eq-eqb, ne_eqb, leb-true, le-leb, lt-leb}
 use lib.Dec.{eqb, leb}
-use lib.ListN.{length, get_or, drop, set}
-use lib.Seq.{get_or-drop}
+use lib.ListN.{length, get_or, drop}
 use Rattle.base.proofs.Choice.{pick_either}
 use Rattle.link_receive.specs.Receive.{at}
 use Rattle.link_receive.specs.declared.Phase.{Phase}
@@ -39,22 +38,16 @@ is_nine (a ∷ b ∷ c ∷ d ∷ e ∷ f ∷ p ∷ n ∷ k ∷ []) h = nine a b 
 is_nine (a ∷ b ∷ c ∷ d ∷ e ∷ f ∷ p ∷ n ∷ k ∷ x ∷ l) h = absurd (omega arith)
 
 -- the last three of them
-last_three : {w : List ℕ} → Nine w → drop 6 w ≡ get_or w 6 0 ∷ get_or w 7 0 ∷ get_or w 8 0 ∷ []
+abbrev pub half_words : List ℕ → List ℕ
+half_words w = get_or w 6 0 ∷ get_or w 7 0 ∷ get_or w 8 0 ∷ []
+
+last_three : {w : List ℕ} → Nine w → drop 6 w ≡ half_words w
 last_three (nine a b c d e f p n k) = refl
-
--- all nine stored one after the other
-put_nine : {w : List ℕ} (a b c d e f p n k : ℕ) → Nine w →
-    set (set (set (set (set (set (set (set (set w 0 a) 1 b) 2 c) 3 d) 4 e) 5 f) 6 p) 7 n) 8 k ≡ a ∷ b ∷ c ∷ d ∷ e ∷ f ∷ p ∷ n ∷ k ∷ []
-put_nine a b c d e f p n k (nine a₀ b₀ c₀ d₀ e₀ f₀ p₀ n₀ k₀) = refl
-
-pub nine_stored : (w : List ℕ) (a b c d e f p n k : ℕ) → length w ≡ 9 →
-    set (set (set (set (set (set (set (set (set w 0 a) 1 b) 2 c) 3 d) 4 e) 5 f) 6 p) 7 n) 8 k ≡ a ∷ b ∷ c ∷ d ∷ e ∷ f ∷ p ∷ n ∷ k ∷ []
-nine_stored w a b c d e f p n k long = put_nine a b c d e f p n k (is_nine w long)
 
 pub both : (s t : Bool) → (s && t) ≡ true → (s ≡ true) × (t ≡ true)
 both s t = (and-eq-true_iff s t).0
 
-half_byte : (s : ℕ) (h : List ℕ) → is_half s h ≡ true → get_or h 2 0 ≤ 255
+pub half_byte : (s : ℕ) (h : List ℕ) → is_half s h ≡ true → get_or h 2 0 ≤ 255
 unfolding is_half
 half_byte s h =
     let p = eqb (get_or h 0 0) 0 in
@@ -88,20 +81,36 @@ module _ (w : List ℕ) where
         half = r.1;
       }
 
-  pub nine_long : is_sender w ≡ true → length w ≡ 9
-  nine_long is = (sender_parts is).nine_long
+  -- what numbers that are none lack
+  pub not_nine : (length w ≡ 9 → ⊥) → is_sender w ≡ false
+  unfolding is_sender
+  not_nine h = rw (ne_eqb (length w) 9 h)
 
-  -- the check, which is a byte
-  module _ (is : is_sender w ≡ true) where
-    pub check_byte_lem : get_or w 8 0 ≤ 255
-    check_byte_lem = rw (get_or-drop 6 w 2 0) at (half_byte (get_or w 0 0) (drop 6 w) (sender_parts is).half)
+  pub no_phase : 5 < get_or w 0 0 → is_sender w ≡ false
+  unfolding is_sender
+  no_phase h = rw (lt-leb (get_or w 0 0) 5 h, and-false (eqb (length w) 9))
+
+  pub no_priority : 1 < get_or w 3 0 → is_sender w ≡ false
+  unfolding is_sender
+  no_priority h = rw (lt-leb (get_or w 3 0) 1 h, and-false (eqb (length w) 9 && leb (get_or w 0 0) 5))
+
+  -- nine numbers, of which the last three are those of a half or not
+  module _ (long : length w ≡ 9) where
+    pub no_half : is_half (get_or w 0 0) (half_words w) ≡ false → is_sender w ≡ false
+    unfolding is_sender
+    no_half h = rw (last_three (is_nine w long), h, and-false (eqb (length w) 9 && leb (get_or w 0 0) 5 && leb (get_or w 3 0) 1))
+
+    pub is_sender_lem : get_or w 0 0 ≤ 5 → get_or w 3 0 ≤ 1 → is_half (get_or w 0 0) (half_words w) ≡ true → is_sender w ≡ true
+    unfolding is_sender
+    is_sender_lem phase priority half =
+        rw (eq-eqb (length w) 9 long, le-leb (get_or w 0 0) 5 phase, le-leb (get_or w 3 0) 1 priority, last_three (is_nine w long), half)
 
     -- what is read of them
     pub sender_read : {p : Phase} {q : Priority} {r : SendPhase} → p ≡ phase_at (get_or w 6 0) → q ≡ priority_at (get_or w 3 0) →
         r ≡ send_phase_at (get_or w 0 0) (at p (get_or w 7 0) (get_or w 8 0)) →
         ◌≡◌ {A = Sender} (record { limits = attempts (get_or w 1 0) (get_or w 2 0); failed = attempts (get_or w 4 0) (get_or w 5 0); priority = q; phase = r }) (sender_at w)
     unfolding sender_at
-    sender_read half priority phase = rw (phase, half, priority, last_three (is_nine w (sender_parts is).nine_long))
+    sender_read half priority phase = rw (phase, half, priority, last_three (is_nine w long))
 
 -- the call, by event and numbers
 module _ (w : List ℕ) (event : ℕ) (d buf out : List ℕ) where

@@ -1,9 +1,10 @@
 // The call of the sender as a function for C: link_send::send. include/hanraquin.h says it for the programmer.
 #![tactic(auto)]
 
-ghost use Rattle.std.specs.Prelude.{◌≡◌, true, [], ◌∷◌, length};
-ghost use Rattle.link_send.specs.Send.{response_of, send_of};
-ghost use Rattle.c_link_send.specs.Send.{priority_number, priority_at, send_phase_number, send_phase_at, half_in, sender_words, sender_at, is_half, is_sender, event_at, of_response, at_sender, at_sender_by, send_call};
+ghost use Rattle.std.specs.Prelude.{◌≡◌, [], ◌∷◌, Some, None};
+ghost use Rattle.base.specs.Choice.{pick};
+ghost use Rattle.link_send.specs.Send.{response_of};
+ghost use Rattle.c_link_send.specs.Send.{priority_number, priority_at, send_phase_number, send_phase_at, half_in, sender_words, sender_at, is_half, is_sender, event_at, of_response, at_sender, send_call};
 ghost use Rattle.c_link_send.specs.Private.Small.{SmallResponse};
 
 use c_answer::TIMER;
@@ -92,59 +93,62 @@ fn is_half(sending: u64, phase: u64, count: u64, check: u64) -> bool
 }
 
 // How many numbers a sender has.
-const WORDS: usize = 9;
+const SENDER: usize = 9;
 
-// Whether numbers are a sender.
-#[tactic(auto, unfolding(crate::specs::Send::is_sender))]
-fn is_sender(words: &[u64]) -> bool
-    ensures { result ≡ is_sender words.now }
+// The sender that numbers stand for, if they are those of a sender.
+fn sender_from(words: &[u64; SENDER]) -> Option<Sender>
+    ensures { result ≡ pick (is_sender words.now) (Some (sender_at words.now)) None }
 {
-    words.len() == WORDS
-        && words[0] <= 5
-        && words[3] <= 1
-        && is_half(words[0], words[6], words[7], words[8])
-}
-
-// The sender that numbers stand for.
-#[tactic(auto, using(crate::proofs::States::nine_long))]
-fn sender_at(words: &[u64]) -> Sender
-    requires { is_sender words.now ≡ true }
-    ensures { result ≡ sender_at words.now }
-{
-    let half = LinkState {
-        count: words[7] as usize,
-        check: words[8] as u8,
-        phase: c_link::phase_at(words[6]),
-    };
-    Sender {
-        limits: Attempts {
-            connections: words[1] as usize,
-            blocks: words[2] as usize,
-        },
-        failed: Attempts {
-            connections: words[4] as usize,
-            blocks: words[5] as usize,
-        },
-        priority: priority_at(words[3]),
-        phase: send_phase_at(words[0], half),
+    let [
+        sending,
+        most_connections,
+        most_blocks,
+        priority,
+        connections,
+        blocks,
+        phase,
+        count,
+        check,
+    ] = *words;
+    if sending <= 5 && priority <= 1 && is_half(sending, phase, count, check) {
+        let half = LinkState {
+            count: count as usize,
+            check: check as u8,
+            phase: c_link::phase_at(phase),
+        };
+        Some(Sender {
+            limits: Attempts {
+                connections: most_connections as usize,
+                blocks: most_blocks as usize,
+            },
+            failed: Attempts {
+                connections: connections as usize,
+                blocks: blocks as usize,
+            },
+            priority: priority_at(priority),
+            phase: send_phase_at(sending, half),
+        })
+    } else {
+        None
     }
 }
 
-// Writes a sender as nine numbers, to a slice, which is what C lends.
-fn put_sender(state: Sender, words: &mut [u64])
-    requires { length words.old ≡ 9 }
-    ensures { words.new ≡ sender_words state }
+// The nine numbers of a sender.
+fn words_of(state: Sender) -> [u64; SENDER]
+    ensures { result ≡ sender_words state }
 {
     let half = half_in(state.phase);
-    words[0] = send_phase_number(state.phase);
-    words[1] = state.limits.connections as u64;
-    words[2] = state.limits.blocks as u64;
-    words[3] = priority_number(state.priority);
-    words[4] = state.failed.connections as u64;
-    words[5] = state.failed.blocks as u64;
-    words[6] = c_link::phase_number(half.phase);
-    words[7] = half.count as u64;
-    words[8] = half.check as u64;
+    [
+        send_phase_number(state.phase),
+        state.limits.connections as u64,
+        state.limits.blocks as u64,
+        priority_number(state.priority),
+        state.failed.connections as u64,
+        state.failed.blocks as u64,
+        c_link::phase_number(half.phase),
+        half.count as u64,
+        half.check as u64,
+    ]
 }
 
 // The event that is the start. The one below it is the timer.
@@ -178,17 +182,6 @@ fn of_answer(answer: Result<SendAnswer, Refusal>) -> u64
     }
 }
 
-// One event at a sender that numbers stand for.
-#[tactic(auto, using(crate::proofs::States::nine_long))]
-fn send_at(words: &mut [u64], event: u32, src: &[u8], buffer: &mut [u8], out: &mut [u8]) -> u64
-    requires { is_sender words.old ≡ true }
-    ensures { at_sender result words.new buffer.new out.new ≡ at_sender_by (send_of (sender_at words.old) (event_at event) src.now buffer.old out.old).outcome }
-{
-    let step = link_send::send(sender_at(words), event_at(event), src, buffer, out);
-    put_sender(step.state, words);
-    of_answer(step.answer)
-}
-
 // One event at the sender whose state is nine numbers, phase, two limits, priority, two counts of failed attempts and the
 // half's three: link_send::send. The value is how many bytes are to be sent, the first ones of out; with a message, 65536 times
 // one more than its length is added.
@@ -203,8 +196,16 @@ pub fn hanraquin_send(
 ) -> u64
     ensures { at_sender result state.new buffer.new out.new ≡ send_call state.old event src.now buffer.old out.old }
 {
-    if START < event || !is_sender(state) {
+    if START < event {
         return c_answer::refused(Refusal::Setup);
     }
-    send_at(state, event, src, buffer, out)
+    let Some(words) = state.as_mut_array() else {
+        return c_answer::refused(Refusal::Setup);
+    };
+    let Some(before) = sender_from(words) else {
+        return c_answer::refused(Refusal::Setup);
+    };
+    let step = link_send::send(before, event_at(event), src, buffer, out);
+    *words = words_of(step.state);
+    of_answer(step.answer)
 }
