@@ -52,6 +52,9 @@ fn count_dles(part: &[u8; PART]) -> u8
     n
 }
 
+// Each function below that writes a part gives the place behind it. The output and the place stay two parameters: a struct that
+// holds them needs clauses in each function that it keeps its output and the output's length.
+
 // Writes data with each DLE doubled, its first byte at place from, and gives the place behind it, which goes on by one or by two.
 fn write_doubling(part: &[u8], out: &mut [u8], from: usize) -> usize
     requires { from + length (doubled part.now) ≤ length out.old }
