@@ -7,6 +7,7 @@ use Prim.Native.Nat.{ℕ}
 use borrow.Author.Tests.{eqb-true, eqb-false, ne_eqb}
 use lib.Dec.{eqb, ltb}
 use lib.ListN.{length, get_or}
+use Rattle.std.specs.Prelude.{Option, Some, None}
 use Rattle.base.specs.Choice.{pick}
 use Rattle.mop_block.specs.Block.{stations, good_block}
 use Rattle.mop_header.specs.Header.{function_byte}
@@ -24,6 +25,26 @@ module _ (f : ℕ) (other : f ≡ 0xE0 → ⊥) where
   pub centre_allows : allowed Centre f ≡ false
   unfolding allowed
   centre_allows = simp (ne_eqb _ _ other)
+
+-- the functions of the bytes: a reply is taken by everybody, and no byte but these two
+pub reply_taken : (who : Reader) → allowed who 0xE0 ≡ true
+unfolding allowed
+reply_taken Station = refl
+reply_taken Centre = refl
+
+pub neither_taken : (who : Reader) (f : ℕ) → (f ≡ 0x60 → ⊥) → (f ≡ 0xE0 → ⊥) → allowed who f ≡ false
+neither_taken Station f p q = station_allows f q ∙ ne_eqb f 0x60 p
+neither_taken Centre f p q = centre_allows f q
+
+-- the function that a reader takes, or none
+module _ (g : Function) where
+  pub some_taken : (t : Bool) {r : Option Function} {f : Function} → r ≡ pick t (Some g) None → r ≡ Some f → (t ≡ true) × (f ≡ g)
+  some_taken true e s = (refl, (let same : Some g ≡ _ = sym e ∙ s in cc))
+  some_taken false e s = (let z : None ≡ _ = sym e ∙ s in cc)
+
+  pub none_taken : (t : Bool) {r : Option Function} → r ≡ pick t (Some g) None → r ≡ None → t ≡ false
+  none_taken true e s = (let z : Some g ≡ None = sym e ∙ s in cc)
+  none_taken false e s = refl
 
 -- a function and its byte
 pub function_at_lem : (f : Function) (l : List ℕ) → function_at (function_byte f ∷ l) ≡ f

@@ -1,12 +1,13 @@
 -- Reading a header, step by step: what each test gives.
 -- Assumes nothing.
-use mathlib.Core.Path.{◌≡◌, refl, sym, ◌∙◌, ap}
+use mathlib.Core.Path.{◌≡◌, refl, ◌∙◌, ap}
 use mathlib.Core.Bool.{Bool, true, false, and-false}
 use mathlib.Core.List.{List, [], ◌++◌}
 use Prim.Native.Nat.{ℕ, ◌+◌, ◌≤◌, ◌<◌}
 use borrow.Author.Tests.{lt-ltb, le-ltb, le-leb, lt-leb}
 use lib.Dec.{eqb, leb}
 use lib.ListN.{length, get_or, take, drop}
+use Rattle.std.specs.Prelude.{Option, Some, None}
 use Rattle.base.specs.Choice.{pick}
 use Rattle.mop_header.specs.Header.{Head, head, head_of, entries, is_mark, mark_agrees, block_start}
 use Rattle.mop_reader.specs.Reading.{sound, faulty, allowed, function_at, good_for, judged, standard_reading, count_at, extended_reading, max_telegram, reading}
@@ -17,6 +18,7 @@ use Rattle.mop_header.specs.declared.Form.TheVariants.{Standard, Extended}
 use Rattle.mop_header.specs.declared.Function.{Function}
 use Rattle.mop_header.specs.declared.Function.TheVariants.{Request, Reply}
 use Rattle.mop_reader.specs.declared.Reader.{Reader}
+use Rattle.mop_reader.proofs.Readers.{some_taken}
 
 -- the block, then the mark
 pub judged_block : (who : Reader) (h : Head) → good_for who h.block ≡ false → judged who h ≡ faulty 5
@@ -59,12 +61,14 @@ module _ (who : Reader) (tg : List ℕ) where
         as_standard e = rw (le-ltb max_telegram (length tg) small, le-ltb (length tg) 6 six, function, e)
 
       -- the same by what the calls give
-      pub by_form : {taken mark : Bool} {f : Function} → taken ≡ allowed who (get_or tg 0 0) → taken ≡ true →
-          f ≡ pick (eqb (get_or tg 0 0) 0xE0) Reply Request → mark ≡ is_mark f (get_or tg 2 0) (get_or tg 3 0) (get_or tg 4 0) (get_or tg 5 0) →
+      pub by_form : {r : Option Function} {f : Function} {mark : Bool} →
+          r ≡ pick (allowed who (get_or tg 0 0)) (Some (pick (eqb (get_or tg 0 0) 0xE0) Reply Request)) None → r ≡ Some f →
+          mark ≡ is_mark f (get_or tg 2 0) (get_or tg 3 0) (get_or tg 4 0) (get_or tg 5 0) →
           reading who tg ≡ pick mark (extended_reading who tg) (standard_reading who tg)
       unfolding reading function_at
-      by_form {taken} a t f m =
-          rw (le-ltb max_telegram (length tg) small, le-ltb (length tg) 6 six, sym a ∙ t, m, f)
+      by_form e s m =
+          let taken = some_taken _ (allowed who (get_or tg 0 0)) e s in
+          rw (le-ltb max_telegram (length tg) small, le-ltb (length tg) 6 six, taken.0, m, taken.1)
 
   -- behind the mark
   pub count_cut : length tg < 7 → extended_reading who tg ≡ faulty 2

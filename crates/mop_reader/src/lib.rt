@@ -1,7 +1,7 @@
 // Reading the header of a MoP telegram, for a station or for the centre.
 #![tactic(auto)]
 
-ghost use Rattle.std.specs.Prelude.{◌≡◌, ℕ, ◌≤◌, List, ◌++◌, length, drop, eqb};
+ghost use Rattle.std.specs.Prelude.{◌≡◌, ℕ, ◌≤◌, List, ◌++◌, Some, None, length, drop, eqb};
 ghost use Rattle.base.specs.Choice.{pick};
 ghost use Rattle.mop_header.specs.declared.Function.TheVariants.{Request, Reply};
 ghost use Rattle.mop_header.specs.Header.{head, block_start, may_begin, is_mark};
@@ -23,24 +23,19 @@ pub enum Reader {
     Centre,
 }
 
-// What a function byte that is allowed stands for.
-fn function_of(byte: u8) -> Function
-    ensures { result ≡ pick (eqb byte 0xE0) Reply Request }
-{
-    if byte == 0xE0 {
-        Function::Reply
-    } else {
-        Function::Request
-    }
-}
+// The bytes of the functions.
+const REQUEST: u8 = Function::Request as u8;
 
-// Whether a reader takes a function byte.
-fn is_allowed(reader: Reader, byte: u8) -> bool
-    ensures { result ≡ allowed reader byte }
+const REPLY: u8 = Function::Reply as u8;
+
+// The function of a byte, if a reader takes it.
+fn function_for(reader: Reader, byte: u8) -> Option<Function>
+    ensures { result ≡ pick (allowed reader byte) (Some (pick (eqb byte 0xE0) Reply Request)) None }
 {
-    match reader {
-        Reader::Station => byte == 0x60 || byte == 0xE0,
-        Reader::Centre => byte == 0xE0,
+    match (reader, byte) {
+        (_, REPLY) => Some(Function::Reply),
+        (Reader::Station, REQUEST) => Some(Function::Request),
+        _ => None,
     }
 }
 
@@ -106,10 +101,9 @@ pub fn read(reader: Reader, telegram: &[u8]) -> Result<Header, Refusal>
     let [byte, control, a, b, c, d, ..] = *telegram else {
         return Err(Refusal::HeaderCut);
     };
-    if !is_allowed(reader, byte) {
+    let Some(function) = function_for(reader, byte) else {
         return Err(Refusal::Function);
-    }
-    let function = function_of(byte);
+    };
     if !is_mark(function, a, b, c, d) {
         return judge(reader, function, control, Form::Standard, &telegram[2..6]);
     }

@@ -7,6 +7,7 @@ use native.Mathlib.Omega.{arith}
 use lib.ListN.{get_or, drop, take-append-drop}
 use Rattle.base.specs.Choice.{pick}
 use Rattle.mop_reader.specs.Reading.{function_at, reading, extended_reading, standard_reading}
+use Rattle.mop_reader.proofs.Readers.{some_taken, none_taken}
 use Rattle.mop_reader.proofs.Steps.{too_long, cut, not_allowed, by_form, count_cut, count_small, count_large, block_cut, behind_mark, without_mark}
 use Rattle.mop_reader.proofs.read.Goals as goal
 use Rattle.mop_reader.proofs.read.Goals.{After-is_mark, then-count-lt2-via-then-count-lt2, then-count-lt2-via-else-count-lt2+then-count-gt-MAX_ENTRIES}
@@ -18,7 +19,7 @@ form_is : (s : After-is_mark) {marked : Bool} → s.is_mark.result ≡ marked �
 form_is s e =
     let who = s.args.reader in
     let tg = s.args.telegram.now in
-    by_form _ _ s.if-telegram-gt-MAX_TELEGRAM.false (omega arith) s.is_allowed.ensures s.if-not-is_allowed.false s.function_of-function.ensures s.is_mark.ensures
+    by_form _ _ s.if-telegram-gt-MAX_TELEGRAM.false (omega arith) s.function_for.ensures s.in-Some.is s.is_mark.ensures
     ∙ ap (λ (marked : Bool). pick marked (extended_reading who tg) (standard_reading who tg)) e
 
 pub returns-then-telegram-gt-MAX_TELEGRAM : goal.returns-then-telegram-gt-MAX_TELEGRAM
@@ -27,14 +28,14 @@ returns-then-telegram-gt-MAX_TELEGRAM c = sym (too_long _ _ c.if-telegram-gt-MAX
 pub returns-in_default : goal.returns-in_default
 returns-in_default c = sym (cut _ _ c.if-telegram-gt-MAX_TELEGRAM.false (omega arith))
 
-pub returns-then-not-is_allowed : goal.returns-then-not-is_allowed
-returns-then-not-is_allowed c = sym (not_allowed _ _ c.if-telegram-gt-MAX_TELEGRAM.false (omega arith) (sym c.is_allowed.ensures ∙ c.if-not-is_allowed.true))
+pub returns-in_default-function_for : goal.returns-in_default-function_for
+returns-in_default-function_for c = sym (not_allowed _ _ c.if-telegram-gt-MAX_TELEGRAM.false (omega arith) (none_taken _ _ c.function_for.ensures c.in_default-function_for.is))
 
 pub returns-then-not-is_mark : goal.returns-then-not-is_mark
 unfolding function_at
 returns-then-not-is_mark c =
     let tg = c.args.telegram.now in
-    (rw c.function_of-function.ensures at (c.judge.ensures tg (drop 4 (drop 2 tg)))) (sym (take-append-drop 4 (drop 2 tg)))
+    (rw (some_taken _ _ c.function_for.ensures c.in-Some.is).1 at (c.judge.ensures tg (drop 4 (drop 2 tg)))) (sym (take-append-drop 4 (drop 2 tg)))
     ∙ sym (form_is (goal.at.returns-then-not-is_mark c).After-is_mark c.if-not-is_mark.true ∙ without_mark _ tg)
 
 pub returns-then-telegram-lt7 : goal.returns-then-telegram-lt7
@@ -57,5 +58,5 @@ unfolding function_at
 returns c =
     let tg = c.args.telegram.now in
     let end : (7 + get_or tg 6 0) - 7 ≡ get_or tg 6 0 = omega arith in
-    (rw (c.function_of-function.ensures, end) at (c.judge-2.ensures tg (drop (get_or tg 6 0) (drop 7 tg)))) (sym (take-append-drop (get_or tg 6 0) (drop 7 tg)))
+    (rw ((some_taken _ _ c.function_for.ensures c.in-Some.is).1, end) at (c.judge-2.ensures tg (drop (get_or tg 6 0) (drop 7 tg)))) (sym (take-append-drop (get_or tg 6 0) (drop 7 tg)))
     ∙ sym (form_is (goal.at.returns c).After-is_mark c.if-not-is_mark.false ∙ behind_mark _ tg c.if-telegram-lt7.false c.if-count-lt2.false c.if-count-gt-MAX_ENTRIES.false c.if-telegram-end.false)
