@@ -25,7 +25,8 @@ const MAX_RUN: usize = 255;
 // What is read in a reply.
 #[derive(Clone, Copy)]
 pub struct Reply {
-    // The stations in order, the destination last; 0 in the places that are left.
+    // The stations in order, the destination last; 0 in the places that are left. No length beside: no heap, and the definition
+    // fills the route up with 0.
     pub route: [u8; MAX_ROUTE],
     // The number of the first register that was read, and how many were.
     pub start: u16,
@@ -47,27 +48,33 @@ fn is_route(route: &[u8]) -> bool
 // Room for the entries of the longest block of a request: a route, and a 00.
 const REQUEST_BLOCK: usize = MAX_ROUTE + 1;
 
-// The header of a request, beside a block of 00s that the route is put into: a standard one for up to three stations, else an
-// extended one.
-fn request_header(route: &[u8], block: &mut [u8]) -> Header
-    requires route_len_bound { length route.now ≤ max_route }
-    requires block_value { block.old ≡ zeros max_entries }
-    ensures { head_of result block.new ≡ request_head route.now }
+// The header of a request, and its block: the route, and 00s behind it. A standard one for up to three stations, else an extended
+// one.
+fn request_header(route: &[u8]) -> (Header, [u8; REQUEST_BLOCK])
+    requires { length route.now ≤ max_route }
+    ensures { head_of result.0 result.1 ≡ request_head route.now }
 {
     let n = route.len();
-    places::put(route, block, 0);
+    let mut block = [0u8; REQUEST_BLOCK];
+    places::put(route, &mut block, 0);
     if n <= 3 {
-        Header::new(Function::Request, NEW_CONTROL, Form::Standard, 4)
+        (
+            Header::new(Function::Request, NEW_CONTROL, Form::Standard, 4),
+            block,
+        )
     } else {
         let count = (n + 1) as u8;
-        Header::new(Function::Request, NEW_CONTROL, Form::Extended(MARK), count)
+        (
+            Header::new(Function::Request, NEW_CONTROL, Form::Extended(MARK), count),
+            block,
+        )
     }
 }
 
 // Room for the longest body of a request: six bytes, and the values of the longest run.
 const REQUEST_BODY: usize = 6 + 2 * MAX_RUN;
 
-// The body of a request in the first places.
+// The body of a request in the first places: a fixed room and a length, since there is no heap.
 fn request_body(rstart: u16, rcount: u8, wstart: u16, values: &[u16]) -> [u8; REQUEST_BODY]
     requires { length values.now ≤ max_run }
     ensures { take (6 + 2 * length values.now) result ≡ request_body rstart rcount wstart values.now }
@@ -103,8 +110,7 @@ pub fn write_request(
     if MAX_RUN < rcount || MAX_RUN < values.len() {
         return Err(Refusal::TooLong);
     }
-    let mut block = [0u8; REQUEST_BLOCK];
-    let header = request_header(route, &mut block);
+    let (header, block) = request_header(route);
     let body = request_body(rstart, rcount as u8, wstart, values);
     let n = 6 + 2 * values.len();
     mop_header::write(header, &block, &body[..n], out)

@@ -1,6 +1,6 @@
 -- `write_request`: the route, the runs, then the telegram.
 -- Assumes nothing.
-use mathlib.Core.Path.{refl, sym, ◌∙◌, ap₂}
+use mathlib.Core.Path.{sym, ◌∙◌, ap₂}
 use mathlib.Core.List.{List}
 use Prim.Native.Nat.{ℕ}
 use native.Mathlib.Omega.{arith}
@@ -23,8 +23,8 @@ returns-then-rcount-gt-MAX_RUN c =
       | then-rcount-gt-MAX_RUN-via-else-rcount-gt-MAX_RUN+then-values-gt-MAX_RUN w ↦ sym (long_write _ _ _ _ _ _ good w.if-values-gt-MAX_RUN.true)
     ]
 
-pub request_header-header-requires : goal.request_header-header-requires
-request_header-header-requires c = record { route_len_bound = (route_parts _ (sym c.is_route.ensures ∙ c.if-not-is_route.false)).most; block_value = refl }
+pub request_header-requires : goal.request_header-requires
+request_header-requires c = (route_parts _ (sym c.is_route.ensures ∙ c.if-not-is_route.false)).most
 
 pub returns : goal.returns
 unfolding request_telegram
@@ -32,5 +32,5 @@ returns c =
     let out = c.args.out.now in
     let good = sym c.is_route.ensures ∙ c.if-not-is_route.false in
     c.write.ensures
-    ∙ ap₂ (λ (h : Head) (l : List ℕ). fitted (telegram_of h l) out) c.request_header-header.ensures c.request_body-body.ensures
+    ∙ ap₂ (λ (h : Head) (l : List ℕ). fitted (telegram_of h l) out) c.request_header.ensures c.request_body-body.ensures
     ∙ sym (request_fitted _ _ _ _ _ _ good (omega arith) c.if-values-gt-MAX_RUN.false)
