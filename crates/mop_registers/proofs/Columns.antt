@@ -8,6 +8,7 @@ use native.Mathlib.Omega.{arith}
 use borrow.Author.Tests.{eqb-true, eqb-false}
 use lib.Dec.{eqb}
 use lib.ListN.{drop_of_length-le}
+use Rattle.std.specs.Prelude.{Option, Some}
 use Rattle.mop_registers.specs.Rows.{rows, table_length, place_of, write_of, range_of, may_write, takes}
 use Rattle.mop_registers.specs.Private.Columns.{values_in, write_at, range_at}
 use Rattle.mop_registers.specs.declared.Range.{Range}
@@ -19,9 +20,12 @@ module _ (n : ℕ) {p : ℕ} (at : p ≡ place_of n) where
   unfolding may_write write_at
   write_said said = said ∙ ap write_at at
 
-  pub range_said : {r x : Range} → values_in r ≡ range_at p → r ≡ x → (v : ℕ) → values_in x v ≡ takes n v
+  pub range_said : {r x : Option Range} → values_in r ≡ range_at p → r ≡ x → (v : ℕ) → values_in x v ≡ takes n v
   unfolding takes range_at
   range_said said told v = ap (λ (f : ℕ → Bool). f v) (sym (ap values_in told) ∙ said ∙ ap range_at at)
+
+  pub some_said : {r : Option Range} {x y : Range} → values_in r ≡ range_at p → r ≡ Some x → x ≡ y → (v : ℕ) → values_in (Some y) v ≡ takes n v
+  some_said said told kind v = range_said said (told ∙ ap Some kind) v
 
 -- a test holds of n places, the first of which is given
 abbrev pub tried : (ℕ → Bool) → ℕ → ℕ → Bool

@@ -10,8 +10,7 @@ ghost use Rattle.mop_registers.specs.Private.Columns.{values_in, range_at};
 // The length of a station's table of values.
 pub const TABLE_LENGTH: usize = 18;
 
-// The values that a register takes: any; from the least to the largest; these, or 65535; the times of day; these, or
-// 65535; none, where no register is.
+// The values that a register takes: any; from the least to the largest; these, or 65535; the times of day; these, or 65535.
 #[derive(Clone, Copy)]
 enum Range {
     Any,
@@ -19,7 +18,6 @@ enum Range {
     FromToOr65535(u16, u16),
     TimeOfDay,
     TimeOfDayOr65535,
-    NoValue,
 }
 
 // The place of a register's value in a table; TABLE_LENGTH for a number that no register has. In a run of numbers a place is
@@ -44,30 +42,31 @@ pub fn place_of(number: usize) -> usize
     }
 }
 
-// The range of the register at a place.
-fn range_at(place: usize) -> Range
+// The range of the register at a place; None behind the last one. Range, write and factory value stand in three functions, and in
+// no table of rows: the matches are code, and take no memory of the station.
+fn range_at(place: usize) -> Option<Range>
     ensures { values_in result ≡ range_at place }
 {
     match place {
-        0 => Range::Any, // 2
-        1 => Range::FromTo(0, 3), // 300
-        2 => Range::Any, // 931
-        3 => Range::Any, // 932
-        4 => Range::Any, // 933
-        5 => Range::Any, // 934
-        6 => Range::Any, // 935
-        7 => Range::Any, // 936
-        8 => Range::FromTo(1, 1440), // 952
-        9 => Range::FromTo(2, 25), // 953
-        10 => Range::TimeOfDay, // 955
-        11 => Range::FromTo(0, 59), // 956
-        12 => Range::TimeOfDayOr65535, // 957
-        13 => Range::FromTo(1, 1440), // 958
-        14 => Range::FromToOr65535(1, 3600), // 959
-        15 => Range::FromTo(1, 1440), // 960
-        16 => Range::FromTo(1, 1440), // 961
-        17 => Range::FromTo(0, 1), // 962
-        _ => Range::NoValue,
+        0 => Some(Range::Any), // 2
+        1 => Some(Range::FromTo(0, 3)), // 300
+        2 => Some(Range::Any), // 931
+        3 => Some(Range::Any), // 932
+        4 => Some(Range::Any), // 933
+        5 => Some(Range::Any), // 934
+        6 => Some(Range::Any), // 935
+        7 => Some(Range::Any), // 936
+        8 => Some(Range::FromTo(1, 1440)), // 952
+        9 => Some(Range::FromTo(2, 25)), // 953
+        10 => Some(Range::TimeOfDay), // 955
+        11 => Some(Range::FromTo(0, 59)), // 956
+        12 => Some(Range::TimeOfDayOr65535), // 957
+        13 => Some(Range::FromTo(1, 1440)), // 958
+        14 => Some(Range::FromToOr65535(1, 3600)), // 959
+        15 => Some(Range::FromTo(1, 1440)), // 960
+        16 => Some(Range::FromTo(1, 1440)), // 961
+        17 => Some(Range::FromTo(0, 1)), // 962
+        _ => None,
     }
 }
 
@@ -102,12 +101,12 @@ fn takes(number: usize, value: u16) -> bool
     ensures { result ≡ takes number value }
 {
     match range_at(place_of(number)) {
-        Range::Any => true,
-        Range::FromTo(from, to) => is_within(from, to, value),
-        Range::FromToOr65535(from, to) => is_within(from, to, value) || value == 65535,
-        Range::TimeOfDay => is_time_of_day(value),
-        Range::TimeOfDayOr65535 => is_time_of_day(value) || value == 65535,
-        Range::NoValue => false,
+        Some(Range::Any) => true,
+        Some(Range::FromTo(from, to)) => is_within(from, to, value),
+        Some(Range::FromToOr65535(from, to)) => is_within(from, to, value) || value == 65535,
+        Some(Range::TimeOfDay) => is_time_of_day(value),
+        Some(Range::TimeOfDayOr65535) => is_time_of_day(value) || value == 65535,
+        None => false,
     }
 }
 
@@ -119,7 +118,8 @@ pub fn run_exists(start: u16, count: u8) -> bool
     (first..first + count as usize).all(|number| place_of(number) < TABLE_LENGTH)
 }
 
-// Whether every register of a run takes writes.
+// Whether every register of a run takes writes. It differs from run_exists in the test alone; both are public, and a shared one
+// with a closure would be no shorter.
 pub fn run_may_write(start: u16, count: u8) -> bool
     ensures { result ≡ run_may_write start count }
 {
