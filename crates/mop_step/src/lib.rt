@@ -30,7 +30,9 @@ pub enum StationStep {
 }
 
 // A telegram whose header is in order, in its parts. The public step takes them apart, as its callers hold them. The table's
-// length stays a clause beside it: an array of that length would be tested for again behind is_station.
+// length stays a clause beside it: an array of that length would be tested for again behind is_station. Registers, room and reply
+// are handed on one by one: a struct of two mutable borrows and a number says no more, and each contract tells of both borrows,
+// before and after.
 #[derive(Clone, Copy)]
 struct Telegram<'a> {
     header: Header,
@@ -107,15 +109,19 @@ fn judge_runs(
 fn judge_body(body: &[u8]) -> Result<(), Refusal>
     ensures { acceptance_of result ≡ judged_body body.now }
 {
-    if body.len() < 6 || body.len() != 6 + 2 * body[5] as usize {
+    let [r1, r0, rcount, w1, w0, wcount, ref values @ ..] = *body else {
+        return Err(Refusal::BodyLength);
+    };
+    if values.len() != 2 * wcount as usize {
         return Err(Refusal::BodyLength);
     }
-    let rstart = words::word_of(body[0], body[1]);
-    let wstart = words::word_of(body[3], body[4]);
-    judge_runs(rstart, body[2], wstart, body[5], &body[6..])
+    let rstart = words::word_of(r1, r0);
+    let wstart = words::word_of(w1, w0);
+    judge_runs(rstart, rcount, wstart, wcount, values)
 }
 
-// All the writes of a body, from the place of its write start on.
+// All the writes of a body, from the place of its write start on. Here and in the two below the body is read by index, as it came: a
+// struct of its parts would have to be told equal to it in each contract, since the definitions speak of the body.
 fn write_registers(body: &[u8], registers: &mut [u16])
     requires { 6 ≤ length body.now }
     ensures { registers.new ≡ sets registers.old (place_of (write_start body.now)) (values_of body.now) }
