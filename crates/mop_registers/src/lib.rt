@@ -42,8 +42,8 @@ pub fn place_of(number: usize) -> usize
     }
 }
 
-// The range of the register at a place; None behind the last one. Range, write and factory value stand in three functions, and in
-// no table of rows: the matches are code, and take no memory of the station.
+// The range of the register at a place; None behind the last one. Range, write and factory value stand in three functions, by
+// the place alone: a table of rows would take flash, of which a station has little.
 fn range_at(place: usize) -> Option<Range>
     ensures { values_in result ≡ range_at place }
 {

@@ -33,6 +33,7 @@ fn take_telegram(
 ) -> Result<Option<usize>, Refusal>
     ensures { handling_of result registers.new out.new ≡ taking (stepping own (head_of header block.now) body.now registers.old (length out.old)) body.now out.old }
 {
+    // A fixed room, and a length from the step: no heap.
     let mut reply = [0u8; REPLY_BODY];
     let room = out.len();
     match mop_step::step(own, header, block, body, registers, room, &mut reply)? {

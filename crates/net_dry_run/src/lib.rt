@@ -152,6 +152,7 @@ fn play(
         block: &telegram[header.block_start()..],
         body: &telegram[header.length()..],
     };
+    // A fixed room, and a length from the answer: no heap.
     let mut reply = [0u8; REPLY_BODY];
     let stop = leg.walk(header, 0, tables, &mut reply);
     match stop.next {

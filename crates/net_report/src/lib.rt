@@ -150,7 +150,8 @@ struct Turn {
 // A leg of a journey, told from a place on: a line for each transmission. Where the journey ends the last line follows, and the
 // text ends before the place given back; where a destination answers the leg stops. What is behind the loop is never told, since
 // no journey has more transmissions. `walk` of net_dry_run is a loop of its own: shared, it would need a closure with a contract
-// for the line of each transmission.
+// for the line of each transmission. Nine parameters: no other function takes them, and a struct of them would be made and taken
+// apart for this one alone.
 fn write_leg(
     first: Header,
     block: &[u8],
@@ -209,6 +210,7 @@ fn write_journey(
 {
     let block = &telegram[header.block_start()..];
     let body = &telegram[header.length()..];
+    // A fixed room, and a length from the answer: no heap.
     let mut reply = [0u8; REPLY_BODY];
     match write_leg(
         header, block, body, 0, addresses, tables, &mut reply, out, 0,
