@@ -17,12 +17,9 @@ pub(crate) fn tables_before() -> [u16; PLACES] {
     array::from_fn(value_before)
 }
 
-// The first place, from n on, whose value changed; the length where there is none. It is no `first_other`, since what a register was
-// depends on its place.
-fn first_changed(s: &[u16], n: usize) -> usize {
-    (n..s.len())
-        .find(|&i| s[i] != value_before(i))
-        .unwrap_or(s.len())
+// The first place, from n on, whose value changed. It is no `first_other`, since what a register was depends on its place.
+fn first_changed(s: &[u16], n: usize) -> Option<usize> {
+    (n..s.len()).find(|&i| s[i] != value_before(i))
 }
 
 // How far the registers are as before. If that is not to the end: the value there, and how far those behind it are as
@@ -32,10 +29,12 @@ pub(crate) struct KeptRegisters<'a>(pub(crate) &'a [u16]);
 
 impl fmt::Display for KeptRegisters<'_> {
     fn fmt<W: fmt::Write>(&self, f: &mut fmt::Formatter<W>) -> fmt::Result {
-        let at = first_changed(self.0, 0);
+        let end = self.0.len();
+        let at = first_changed(self.0, 0).unwrap_or(end);
         write!(f, "; registers kept to {at}")?;
-        if at < self.0.len() {
-            write!(f, " {} {}", self.0[at], first_changed(self.0, at + 1))?;
+        if let Some(value) = self.0.get(at) {
+            let next = first_changed(self.0, at + 1).unwrap_or(end);
+            write!(f, " {value} {next}")?;
         }
         Ok(())
     }
