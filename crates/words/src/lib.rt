@@ -20,7 +20,16 @@ pub fn put_words(numbers: &[u16], out: &mut [u8], at: usize)
         return;
     }
     for (i, n) in numbers.iter().enumerate() {
-        places::put(&n.to_be_bytes(), out, at + 2 * i);
+        let place = at + 2 * i;
+        let pair = n.to_be_bytes();
+        // At most one byte more has a place, and no number behind it. The others are stored by index: by `put` a read of eight
+        // registers was measured to take half as long again at a station.
+        if out.len() < place + 2 {
+            places::put(&pair, out, place);
+            return;
+        }
+        out[place] = pair[0];
+        out[place + 1] = pair[1];
     }
 }
 
