@@ -16,11 +16,18 @@ pub const KINDS: u64 = 4294967296;
 // The answer "not mine".
 pub const NOT_MINE: u64 = 255 * KINDS;
 
+// The answer of a call that is refused with a number.
+pub fn refused_with(number: u8) -> u64
+    ensures { result ≡ refused number }
+{
+    number as u64 * KINDS
+}
+
 // The answer of a refused call.
 pub fn refused<R: Numbered>(refusal: R) -> u64
     ensures { result ≡ refused (R.numeral refusal) }
 {
-    refusal.number() as u64 * KINDS
+    refused_with(refusal.number())
 }
 
 // The answer of a call that writes.
