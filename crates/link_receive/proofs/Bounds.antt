@@ -3,9 +3,9 @@
 use mathlib.Core.Path.{◌≡◌}
 use mathlib.Core.List.{List}
 use Prim.Native.Nat.{ℕ, ◌+◌, ◌≤◌, ◌<◌}
-use borrow.Author.Tests.{lt-leb, le-ltb}
+use borrow.Author.Tests.{le-leb, lt-leb, le-ltb}
 use lib.ListN.{length, set}
-use Rattle.std.specs.Prelude.{Some}
+use Rattle.std.specs.Prelude.{Some, None}
 use Rattle.link_receive.specs.Receive.{at, storing, no_room, store_of, against, event_of, receive_of}
 use Rattle.link_receive.specs.declared.Dle.TheVariants.{NotSeen}
 use Rattle.events.specs.declared.Event.{Event}
@@ -13,6 +13,15 @@ use Rattle.link_receive.specs.declared.LinkState.{LinkState}
 use Rattle.link_receive.specs.declared.Phase.TheVariants.{Inside}
 
 module _ (n c b : ℕ) (buf : List ℕ) where
+  -- no room: the buffer is full, or the limit is reached
+  pub store_full : length buf ≤ n → store_of n c b buf ≡ storing None buf
+  unfolding store_of no_room
+  store_full h = simp (le-leb _ _ h)
+
+  pub store_limit : n < length buf → 1024 ≤ n → store_of n c b buf ≡ storing None buf
+  unfolding store_of no_room
+  store_limit h k = simp (lt-leb _ _ h, le-leb _ _ k)
+
   pub store_room : n < length buf → n < 1024 → store_of n c b buf ≡ storing (Some (at (Inside NotSeen) (n + 1) c)) (set buf n b)
   unfolding store_of no_room
   store_room h k = simp (lt-leb _ _ h, lt-leb _ _ k)
