@@ -5,7 +5,6 @@ use link_frame::control::STX;
 use link_receive::LinkState;
 use show::{Written, first};
 use std::io;
-use std::io::Read;
 
 // Feeds one byte to the half, and shows byte and answer on a line.
 fn feed_byte(rt: &impl Print, state: LinkState, b: u8, buffer: &mut [u8]) -> io::Result<LinkState> {
@@ -20,23 +19,45 @@ fn feed_byte(rt: &impl Print, state: LinkState, b: u8, buffer: &mut [u8]) -> io:
     Ok(step.state)
 }
 
-// Feeds standard input to a half at rest, byte by byte as it comes.
-pub(crate) fn listen(rt: &HostRuntime) -> io::Result<()> {
-    let mut buffer = [0u8; 1024];
-    let mut state = LinkState::at_rest();
-    for b in rt.stdin().bytes() {
-        state = feed_byte(rt, state, b?, &mut buffer)?;
+// Feeds the bytes one after the other.
+fn feed_bytes(
+    rt: &impl Print,
+    start: LinkState,
+    bytes: &[u8],
+    buffer: &mut [u8],
+) -> io::Result<LinkState> {
+    let mut state = start;
+    for b in bytes {
+        state = feed_byte(rt, state, *b, buffer)?;
     }
+    Ok(state)
+}
+
+// Feeds standard input to a half at rest, a part of it at a time: a part that cannot be read to its end is not fed. A line that
+// cannot be written is the last one, and its error is given at the end of the input.
+pub(crate) fn listen(rt: &HostRuntime) -> io::Result<()> {
+    let mut input = [0u8; 4096];
+    let mut buffer = [0u8; 1024];
+    let mut fed = Ok(LinkState::at_rest());
+    for _ in 0..u64::MAX {
+        let n = streams::read_full(&mut rt.stdin(), &mut input)?;
+        if n == 0 {
+            break;
+        }
+        fed = match fed {
+            Ok(state) => feed_bytes(rt, state, &input[..n], &mut buffer),
+            Err(e) => Err(e),
+        };
+    }
+    fed?;
     Ok(())
 }
 
 // Feeds STX and a frame to a half at rest.
 fn feed_frame(rt: &impl Print, frame: &[u8]) -> io::Result<()> {
     let mut buffer = [0u8; 1024];
-    let mut state = feed_byte(rt, LinkState::at_rest(), STX, &mut buffer)?;
-    for b in frame {
-        state = feed_byte(rt, state, *b, &mut buffer)?;
-    }
+    let opened = feed_byte(rt, LinkState::at_rest(), STX, &mut buffer)?;
+    feed_bytes(rt, opened, frame, &mut buffer)?;
     Ok(())
 }
 
