@@ -204,7 +204,10 @@ fn put_bits(bits: [bool; COMMANDS], words: &mut [u8])
     requires { length words.old ≡ 10 }
     ensures { words.new ≡ bit_numbers bits }
 {
-    words.copy_from_slice(&bits.map(|bit| bit as u8));
+    // By `map` into an array and `copy_from_slice` the call from C took twice the time.
+    for (place, bit) in bits.iter().enumerate() {
+        words[place] = *bit as u8;
+    }
 }
 
 // The answer of an operating command: 1 for ack, 2 for nak.

@@ -1,20 +1,29 @@
--- `put_bits`: each level or edge is mapped to its number.
+-- `put_bits`: each place gets its number, and then all are those of the levels or edges.
 -- Assumes nothing.
 use mathlib.Core.Path.{◌≡◌, ◌∙◌}
-use mathlib.Core.Bool.{false}
+use native.Mathlib.Omega.{arith}
 use borrow.Author.Rules.{rules}
-use lib.ListN.{length, get_or}
-use mir.Val.{bool_byte}
+use lib.ListN.{length, get_or, length-set}
+use Rattle.std.proofs.lemmas.List.Edits.{fill_by_more}
+use Rattle.c_gate.specs.Commands.{bit_numbers}
 use Rattle.c_gate.proofs.Bits.{length_numbers, number_at, same_places}
 use Rattle.c_gate.proofs.put_bits.Goals as goal
 
+pub loop-place-init : goal.loop-place-init
+loop-place-init c = (c.requires, λ k h. absurd (omega arith))
+
+pub loop-place-preserved : goal.loop-place-preserved
+loop-place-preserved c =
+    let v = c.loop-place in
+    let bits = c.args.bits in (
+      length-set v.words v.place _ ∙ v.invariant.0,
+      rw (number_at bits v.place)
+          (fill_by_more (λ k. get_or (bit_numbers bits) k 0) v.words v.place 0 (omega (arith, v.invariant.0, c.loop-place-test.true)) v.invariant.1),
+    )
+
 pub returns : goal.returns
 returns c =
+    let v = c.loop-place in
     let bits = c.args.bits in
     let ten : length bits ≡ 10 = search rules in
-    c.copy_from_slice.ensures.after
-    ∙ same_places 0 10 c.map.ensures.items.long (length_numbers bits ∙ ten)
-    (λ i h.
-    let called = c.map.ensures.items.at i false 0 h in
-    let is : get_or c.map.result i 0 ≡ bool_byte (get_or bits i false) = search rules in
-    is ∙ number_at bits i)
+    same_places 0 10 v.invariant.0 (length_numbers bits ∙ ten) (λ i h. v.invariant.1 i (omega (arith, h, c.loop-place-test.false)))
