@@ -46,7 +46,11 @@ pub fn is_position(z: i32) -> bool
 fn write_bytes(bytes: &[u8], out: &mut [u8]) -> Result<usize, GateRefusal>
     ensures { filling_of result out.new ≡ fitted bytes.now out.old }
 {
-    places::fit(bytes, out).ok_or(GateRefusal::OutputShort)
+    // By `ok_or` the call from C tested again whether there was room.
+    match places::fit(bytes, out) {
+        Some(size) => Ok(size),
+        None => Err(GateRefusal::OutputShort),
+    }
 }
 
 // The bytes of an answer in the first places of out, and their number; the other places keep their values.
