@@ -1,6 +1,6 @@
 -- The lengths of headers.
 -- Assumes nothing.
-use mathlib.Core.Path.{◌≡◌, refl, ◌∙◌}
+use mathlib.Core.Path.{◌≡◌, refl, ◌∙◌, ap}
 use mathlib.Core.List.{List}
 use Prim.Native.Nat.{ℕ, ◌+◌, ◌≤◌}
 use native.Mathlib.Omega.{arith}
@@ -73,3 +73,7 @@ module _ (h : Header) (slice : List ℕ) where
   -- the block begins before the header ends
   pub start_within : {n : ℕ} → n ≡ block_start h.form → n ≤ header_length (head_of h slice)
   start_within s = omega (arith, s, counted)
+
+  -- places that are enough for the header are enough for what stands before the block, and as many entries as it counts
+  pub room_behind : {places : ℕ} {form : Form} → h.form ≡ form → header_length (head_of h slice) ≤ places → header_room form h.count ≤ places
+  room_behind told fits = omega (arith, counted, ap block_start told)

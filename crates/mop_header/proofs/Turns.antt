@@ -11,6 +11,7 @@ use lib.Dec.{ltb}
 use lib.ListN.{length, get_or, set, take, drop, drop_of_length-le, length-drop, get_or-append, get_or-eq_default}
 use lib.Seq.{sets, drop-cons, take-suc, take_all, get_or-append-add, get_or-drop, get_or-take}
 use Rattle.base.specs.Choice.{pick}
+use Rattle.base.proofs.Places.{sets_append}
 use Rattle.mop_block.specs.Block.{rolled, roll_left, roll_right}
 use Rattle.mop_block.proofs.Rolls.{length_rolled, left_cons, right_left}
 use Rattle.mop_header.specs.Header.{Head, entries}
@@ -172,9 +173,23 @@ module _ (n t : ℕ) (l : List ℕ) where
 pub entry_none : (n t : ℕ) (l : List ℕ) (i : ℕ) → n ≤ i → 0 ≡ get_or (rolled t (entries n l)) i 0
 entry_none n t l i h = sym (get_or-eq_default (rolled t (entries n l)) 0 (omega (arith, length_rolled t (entries n l), length_entries n l)))
 
+-- fewer entries, and the entries from a place on
+take_entries : (p n : ℕ) (l : List ℕ) → p ≤ n → take p (entries n l) ≡ entries p l
+unfolding entries
+take_entries zero n l h = refl
+take_entries (suc p) zero l h = absurd (omega arith)
+take_entries (suc p) (suc n) l h = ap (λ (b : List ℕ). get_or l 0 0 ∷ b) (take_entries p n (drop 1 l) (omega arith))
+
 -- one more entry put
-pub entry_put : (b out : List ℕ) (i at : ℕ) {whole : List ℕ} → i < length b → sets out (at + i) (drop i b) ≡ whole →
-    sets (set out (at + i) (get_or b i 0)) (at + (i + 1)) (drop (i + 1) b) ≡ whole
-entry_put b out i at h e =
-    let next : at + (i + 1) ≡ suc (at + i) = omega arith in
-    rw (next, add-one i) (rw (drop-cons b i 0 h) at e)
+pub entry_put : (b out : List ℕ) (i at : ℕ) {whole : List ℕ} → i < length b → sets out at (drop i b) ≡ whole →
+    sets (set out at (get_or b i 0)) (at + 1) (drop (i + 1) b) ≡ whole
+entry_put b out i at h e = rw (add-one at, add-one i) (rw (drop-cons b i 0 h) at e)
+
+-- the entries from the first one on, then those before it, put one after the other
+pub parts_put : (n t : ℕ) (l out : List ℕ) (at : ℕ) {p : ℕ} → p ≡ first_place n t → p ≤ n →
+    sets (sets out at (drop p (entries n l))) (at + (n - p)) (drop 0 (entries p l)) ≡ sets out at (rolled t (entries n l))
+unfolding rolled
+parts_put n t l out at {p} e h =
+    let size : length (drop p (entries n l)) ≡ n - p = length-drop p (entries n l) ∙ rw (length_entries n l) in
+    sym (ap (sets out at) (sym (at_place n t l e) ∙ ap (λ (b : List ℕ). drop p (entries n l) ++ b) (take_entries p n l h))
+    ∙ sets_append out at (drop p (entries n l)) (entries p l) ∙ rw size)

@@ -1,11 +1,12 @@
 -- Writing a header, and a telegram: the stores are the bytes, and these are the first places of the output.
 -- Assumes nothing.
 use mathlib.Core.Path.{◌≡◌, sym, ◌∙◌, ap}
-use mathlib.Core.List.{List, ◌∷◌}
+use mathlib.Core.List.{List, ◌∷◌, ◌++◌}
 use Prim.Native.Nat.{ℕ, ◌+◌, ◌≤◌, ◌<◌}
 use native.Mathlib.Nat.{zero-add}
-use lib.ListN.{length, length-append}
+use lib.ListN.{length, drop, length-append}
 use lib.Seq.{sets}
+use Rattle.base.specs.Places.{placed}
 use Rattle.base.specs.Filling.{denied, fitted}
 use Rattle.base.proofs.Filling.{fitted_short, fitted_room}
 use Rattle.base.proofs.Places.{sets_append, sets_placed}
@@ -13,6 +14,11 @@ use Rattle.refusal.specs.Writing.{filling_of}
 use Rattle.std.specs.Prelude.{Ok}
 use Rattle.mop_header.specs.Header.{Head, function_byte, address_bytes, header_bytes, header_length, telegram_of}
 use Rattle.mop_header.specs.declared.Form.TheVariants.{Standard, Extended}
+
+-- bytes copied over the first places
+pub copied_first : (bytes out : List ℕ) → length bytes ≤ length out → bytes ++ drop (length bytes) out ≡ sets out 0 bytes
+unfolding placed
+copied_first bytes out h = sym (sets_placed bytes out h)
 
 module _ (h : Head) (out : List ℕ) {byte : ℕ} {b : List ℕ} (function : byte ≡ function_byte h.function) (block : b ≡ h.block) where
   pub standard_stored : h.form ≡ Standard → sets out 0 (byte ∷ h.control ∷ b) ≡ sets out 0 (header_bytes h)

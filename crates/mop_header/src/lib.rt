@@ -2,7 +2,7 @@
 // of the caller's that is lent beside it; a header is one only together with that slice.
 #![tactic(auto)]
 
-ghost use Rattle.std.specs.Prelude.{◌≡◌, ℕ, ◌+◌, ◌≤◌, List, length, get_or};
+ghost use Rattle.std.specs.Prelude.{◌≡◌, ℕ, ◌+◌, ◌-◌, ◌≤◌, List, length, get_or, drop};
 ghost use Rattle.std.proofs.lemmas.List.Edits.{sets};
 ghost use Rattle.base.specs.Filling.{fitted};
 ghost use Rattle.refusal.specs.Writing.{filling_of};
@@ -227,14 +227,26 @@ pub fn function_byte(function: Function) -> u8
     function as u8
 }
 
-// Puts the block of a header.
+// Puts the entries of a slice from one place to another.
+fn put_entries(block: &[u8], from: usize, end: usize, out: &mut [u8], at: usize)
+    requires from_le_end { from ≤ end }
+    requires from_in_bounds { at + (end - from) ≤ length out.old }
+    ensures { out.new ≡ sets out.old at (drop from (entries end block.now)) }
+{
+    for i in from..end {
+        out[at + (i - from)] = entry_at(block, i);
+    }
+}
+
+// Puts the block of a header: the entries from the first one on, then those before it.
 fn put_block(header: Header, block: &[u8], out: &mut [u8], at: usize)
     requires { at + header.count ≤ length out.old }
     ensures { out.new ≡ sets out.old at (head_of header block.now).block }
 {
-    for i in 0..header.entry_count() {
-        out[at + i] = header.entry(block, i);
-    }
+    let n = header.count as usize;
+    let first = header.place() as usize;
+    put_entries(block, first, n, out, at);
+    put_entries(block, 0, first, out, at + (n - first));
 }
 
 // Writes the bytes of a header.
@@ -245,15 +257,11 @@ fn write_header(header: Header, block: &[u8], out: &mut [u8])
     let byte = function_byte(header.function);
     match header.form {
         Form::Standard => {
-            places::put(&[byte, header.control], out, 0);
+            out[..2].copy_from_slice(&[byte, header.control]);
             put_block(header, block, out, 2)
         }
         Form::Extended(mark) => {
-            places::put(
-                &[byte, header.control, mark, MARK, MARK, MARK, header.count],
-                out,
-                0,
-            );
+            out[..7].copy_from_slice(&[byte, header.control, mark, MARK, MARK, MARK, header.count]);
             put_block(header, block, out, 7)
         }
     }
