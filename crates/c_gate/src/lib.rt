@@ -151,6 +151,18 @@ fn state_from(words: &[u64]) -> Option<GateState>
     }
 }
 
+// Writes a state as seven numbers.
+fn put_state(state: GateState, words: &mut [u64])
+    requires { length words.old ≡ 7 }
+    ensures { words.new ≡ state_words state }
+{
+    let numbers = words_of(state);
+    // By `copy_from_slice` the call from C asked whether the two overlap.
+    for (place, number) in numbers.iter().enumerate() {
+        words[place] = *number;
+    }
+}
+
 // The answer to an event.
 fn of_answer(answer: Result<GateAnswer, GateRefusal>) -> u64
     ensures { result ≡ of_response (response_of answer) }
@@ -183,7 +195,7 @@ pub fn hanraquin_gate_receive(
         return c_answer::refused(GateRefusal::Setup);
     };
     let step = gate_receive::receive(own, before, store, c_answer::event_at(event), out);
-    state.copy_from_slice(&words_of(step.state));
+    put_state(step.state, state);
     of_answer(step.answer)
 }
 
