@@ -42,7 +42,7 @@ impl TwosComplement for i8 {
     ghost unsigned = { λ n. n };
 
     fn to_bits(self) -> u8 {
-        self.cast_unsigned()
+        i8::cast_unsigned(self)
     }
 
     fn from_bits(bits: u8) -> i8 {
@@ -64,7 +64,7 @@ impl TwosComplement for i32 {
     ghost unsigned = { λ n. n };
 
     fn to_bits(self) -> u32 {
-        self.cast_unsigned()
+        i32::cast_unsigned(self)
     }
 
     fn from_bits(bits: u32) -> i32 {
