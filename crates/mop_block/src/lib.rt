@@ -27,7 +27,10 @@ fn note_address(seen: &mut [bool; 256], a: u8) -> bool
     let place = a as usize;
     let before = seen[place];
     seen[place] = true;
-    is_address(a) && !before
+    if before {
+        return false;
+    }
+    is_address(a)
 }
 
 // Whether every number is an address, and no two are equal. By a loop: of a closure that changes what it captures, as one for `all`
@@ -52,7 +55,8 @@ pub fn names_somebody(b: &[u8]) -> bool
 }
 
 // The block rule: a 00 in it, the 00s one run in the ring, and the stations different addresses. In the ring the last entry
-// stands before the first. One pass: the 00s, where they end, and the addresses are looked at together.
+// stands before the first. One pass: the 00s, where they end, and the addresses are looked at together. A 00 goes on to the next
+// entry by itself, so that the compiler can make a loop of the stations alone, where no 00s end.
 pub fn good_block(b: &[u8]) -> bool
     ensures { result ≡ good_block b.now }
 {
@@ -69,7 +73,9 @@ pub fn good_block(b: &[u8]) -> bool
         last = x;
         if x == 0 {
             zero = true;
-        } else if !note_address(&mut seen, x) {
+            continue;
+        }
+        if !note_address(&mut seen, x) {
             return false;
         }
     }
