@@ -43,7 +43,12 @@ fn write_byte(b: u8, out: &mut [u8], at: usize) -> usize
     ensures out_after { writing_of result out.new ≡ writing at (hex_bytes (b ∷ [])) out.old }
     ensures upper_bound { result ≤ at + 3 }
 {
-    places::put(&[b' ', hex_digit(b / 16), hex_digit(b % 16)], out, at);
+    // By index: by `put` each entry that is told cost a call of memcpy, and a report took twice the time.
+    let high = hex_digit(b / 16);
+    let low = hex_digit(b % 16);
+    out[at] = b' ';
+    out[at + 1] = high;
+    out[at + 2] = low;
     at + 3
 }
 
@@ -70,7 +75,8 @@ fn write_decimal(n: u8, out: &mut [u8], at: usize) -> usize
         out[at] = b'0' + n;
         return at + 1;
     }
-    places::put(&[b'0' + n / 10, b'0' + n % 10], out, at);
+    out[at] = b'0' + n / 10;
+    out[at + 1] = b'0' + n % 10;
     at + 2
 }
 
