@@ -104,25 +104,23 @@ pub fn read(reader: Reader, telegram: &[u8]) -> Result<Header, Refusal>
     let Some(function) = function_for(reader, byte) else {
         return Err(Refusal::Function);
     };
-    if !is_mark(function, a, b, c, d) {
-        return judge(reader, function, control, Form::Standard, &telegram[2..6]);
+    let mut form = Form::Standard;
+    let mut start = 2;
+    let mut end = 6;
+    if is_mark(function, a, b, c, d) {
+        if telegram.len() < 7 {
+            return Err(Refusal::HeaderCut);
+        }
+        let count = telegram[6] as usize;
+        if count < 2 || MAX_ENTRIES < count {
+            return Err(Refusal::ExtendedCount);
+        }
+        form = Form::Extended(a);
+        start = 7;
+        end = 7 + count;
+        if telegram.len() < end {
+            return Err(Refusal::HeaderCut);
+        }
     }
-    if telegram.len() < 7 {
-        return Err(Refusal::HeaderCut);
-    }
-    let count = telegram[6] as usize;
-    if count < 2 || MAX_ENTRIES < count {
-        return Err(Refusal::ExtendedCount);
-    }
-    let end = 7 + count;
-    if telegram.len() < end {
-        return Err(Refusal::HeaderCut);
-    }
-    judge(
-        reader,
-        function,
-        control,
-        Form::Extended(a),
-        &telegram[7..end],
-    )
+    judge(reader, function, control, form, &telegram[start..end])
 }
