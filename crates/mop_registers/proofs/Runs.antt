@@ -14,7 +14,6 @@ use lib.ListN.{length, get_or, take, drop, set, length-set}
 use lib.Seq.{sets, drop-cons, get_or-set_same, get_or-set_other}
 use Rattle.mop_registers.specs.Rows.{from_to, table_length, place_of, exists, may_write, takes}
 use Rattle.mop_registers.specs.Runs.{run_exists, LongestRun, run_may_write, run_takes, writes, reads, KeptOrInRange, WritesInRange}
-use Rattle.std.specs.List.{list_all, range_with_len}
 use Rattle.mop_registers.proofs.Tests.{both_true}
 use Rattle.mop_registers.proofs.Places.{place_most, place_bound, place_apart, place_next, number_bound, taken_exists, no_nine}
 
@@ -31,10 +30,22 @@ pub write_steps : Stepwise may_write run_may_write
 unfolding run_may_write
 write_steps = record { none = λ s. refl; step = λ s c. refl }
 
-module _ {test : ℕ → Bool} {run : ℕ → ℕ → Bool} (w : Stepwise test run) where
-  pub all_run : (s c : ℕ) → list_all test (range_with_len s c) ≡ run s c
-  all_run s zero = sym (w.none s)
-  all_run s (suc c) = rw (w.step s c, add-one s) (ap (λ (b : Bool). test s && b) (all_run (suc s) c))
+-- a run from s up to an end: one register of it, and none
+module _ {test : ℕ → Bool} {run : ℕ → ℕ → Bool} (w : Stepwise test run) (s end : ℕ) where
+  pub run_on : s < end → test s ≡ true → run (s + 1) (end - (s + 1)) ≡ run s (end - s)
+  run_on h t =
+      let more : end - s ≡ suc (end - (s + 1)) = omega arith in
+      rw (more, w.step s (end - (s + 1)), t, add-one s)
+
+  pub run_off : s < end → test s ≡ false → run s (end - s) ≡ false
+  run_off h t =
+      let more : end - s ≡ suc (end - (s + 1)) = omega arith in
+      rw (more, w.step s (end - (s + 1)), t)
+
+  pub run_over : end ≤ s → run s (end - s) ≡ true
+  run_over h =
+      let none : end - s ≡ zero = omega arith in
+      rw (none, w.none s)
 
 pub run_empty : (s : ℕ) → run_exists s 0 ≡ true
 run_empty s = exists_steps.none s

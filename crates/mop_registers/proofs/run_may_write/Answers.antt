@@ -1,15 +1,27 @@
--- `run_may_write`: each number of the run is tried.
+-- `run_may_write`: what is left of the run gives the whole.
 -- Assumes nothing.
-use mathlib.Core.Path.{refl, ◌∙◌}
+use mathlib.Core.Path.{◌≡◌, sym, ◌∙◌}
 use native.Mathlib.Omega.{arith}
-use borrow.Author.Rules.{rules}
-use Rattle.std.proofs.lemmas.Iterator.{YieldsList-from_range}
-use Rattle.std.proofs.lemmas.Iterator.Search.{all_from_yields_List}
-use Rattle.mop_registers.specs.Rows.{may_write}
-use Rattle.mop_registers.proofs.Runs.{write_steps, all_run}
+use Prim.Native.Nat.{◌+◌, ◌-◌}
+use Rattle.mop_registers.proofs.Runs.{write_steps, run_on, run_off, run_over}
 use Rattle.mop_registers.proofs.run_may_write.Goals as goal
+
+pub loop-number-init : goal.loop-number-init
+loop-number-init c =
+    let all : c.args.start + c.args.count - c.args.start ≡ c.args.count = omega arith in
+    rw all
+
+pub returns-then-not-may_write : goal.returns-then-not-may_write
+returns-then-not-may_write c =
+    let v = c.loop-number in
+    sym (run_off write_steps v.number (c.args.start + c.args.count) (omega arith) (sym c.may_write.ensures ∙ c.if-not-may_write.true)) ∙ v.invariant
+
+pub loop-number-preserved : goal.loop-number-preserved
+loop-number-preserved c =
+    let v = c.loop-number in
+    run_on write_steps v.number (c.args.start + c.args.count) (omega arith) (sym c.may_write.ensures ∙ c.if-not-may_write.false) ∙ v.invariant
 
 pub returns : goal.returns
 returns c =
-    all_from_yields_List may_write _ _ _ c.all.ensures.ran (YieldsList-from_range c.args.start _ c.args.count refl (omega arith)) (λ x b q k. search rules)
-    ∙ all_run write_steps c.args.start c.args.count
+    let v = c.loop-number in
+    sym (run_over write_steps v.number (c.args.start + c.args.count) (omega arith)) ∙ v.invariant
