@@ -61,7 +61,16 @@ pub byte_at : (who : Reader) (tg : List ℕ) → allowed who (get_or tg 0 0) ≡
 unfolding function_at
 byte_at who tg a = byte_by who (get_or tg 0 0) (eqb (get_or tg 0 0) 0xE0) refl a
 
+pub none_takes : (who : Reader) (b : List ℕ) → good_block b ≡ false → good_for who b ≡ false
+unfolding good_for
+none_takes Station b e = e
+none_takes Centre b e = rw e
+
 module _ (b : List ℕ) (good : good_block b ≡ true) where
+  pub station_takes : good_for Station b ≡ true
+  unfolding good_for
+  station_takes = good
+
   pub centre_takes : good_for Centre b ≡ ltb 0 (length (stations b))
   unfolding good_for
   centre_takes = rw good

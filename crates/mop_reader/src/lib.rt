@@ -59,13 +59,16 @@ fn is_mark(function: Function, a: u8, b: u8, c: u8, d: u8) -> bool
     }
 }
 
-// Whether a reader takes a block.
+// Whether a reader takes a block. The block rule is asked for in one place, so that its loop stands there once.
 fn good_for(reader: Reader, block: &[u8]) -> bool
     ensures { result ≡ good_for reader block.now }
 {
+    if !mop_block::good_block(block) {
+        return false;
+    }
     match reader {
-        Reader::Station => mop_block::good_block(block),
-        Reader::Centre => mop_block::good_block(block) && mop_block::names_somebody(block),
+        Reader::Station => true,
+        Reader::Centre => mop_block::names_somebody(block),
     }
 }
 
