@@ -1,6 +1,6 @@
 -- A telegram at a station: refused for its own address, its table or its header; or the step, and what is sent.
 -- Assumes nothing.
-use mathlib.Core.Path.{◌≡◌, ap, ap₂}
+use mathlib.Core.Path.{◌≡◌, ap₂}
 use mathlib.Core.Bool.{true, false}
 use mathlib.Core.List.{List}
 use Prim.Native.Nat.{ℕ}
@@ -10,8 +10,7 @@ use Rattle.mop_reader.specs.Reading.{Reading, sound, faulty, reading}
 use Rattle.mop_reader.specs.declared.Reader.TheVariants.{Station}
 use Rattle.mop_step.specs.Step.{is_station, stepping}
 use Rattle.std.specs.Prelude.{Ok, Some}
-use Rattle.refusal.specs.Writing.{filling_of}
-use Rattle.base.specs.Filling.{Filling, written}
+use Rattle.base.specs.Places.{placed}
 use Rattle.mop_station.specs.Station.{sent, refuses, leaving, taking, hearing, handling, handling_of, sending}
 
 module _ (own : ℕ) (t telegram out : List ℕ) where
@@ -33,10 +32,7 @@ module _ (own : ℕ) (t telegram out : List ℕ) where
     unfolding handling hearing
     heard h e = rw (set, e)
 
--- a telegram that was written is sent
-pub sent_by : {n : ℕ} {after : List ℕ} (bytes out : List ℕ) → filling_of (Ok n) after ≡ written bytes out → (t : List ℕ) →
+-- a telegram that was written is sent, with its length
+pub sent_by : {n : ℕ} {after : List ℕ} (bytes out : List ℕ) → n ≡ length bytes → after ≡ placed bytes out → (t : List ℕ) →
     handling_of (Ok (Some n)) t after ≡ sending bytes t out
-sent_by {n} bytes out e t =
-    let given = ap (λ (f : Filling). f.given) e in
-    let size : n ≡ length bytes = cc in
-    ap₂ (λ (k : ℕ) (o : List ℕ). leaving (sent k) t o) size (ap (λ (f : Filling). f.output) e)
+sent_by bytes out size e t = ap₂ (λ (k : ℕ) (o : List ℕ). leaving (sent k) t o) size e
