@@ -227,7 +227,7 @@ pub fn function_byte(function: Function) -> u8
     function as u8
 }
 
-// Puts the entries of a slice from one place to another.
+// Puts the entries of a slice from one place to another. By place, since an entry that the slice lacks is put as 00.
 fn put_entries(block: &[u8], from: usize, end: usize, out: &mut [u8], at: usize)
     requires from_le_end { from ≤ end }
     requires from_in_bounds { at + (end - from) ≤ length out.old }
