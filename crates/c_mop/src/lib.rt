@@ -54,7 +54,7 @@ fn tell_reply(telegram: &[u8], route: &mut [u8], run: &mut [u16]) -> Result<Opti
     ensures { reply_told (of_handled (handled_of result)) route.new run.new ≡ reply_told_by (reply_reading telegram.now) }
 {
     route.fill(0);
-    run.fill(0);
+    run.copy_from_slice(&[0, 0, 0]);
     let Some(reply) = mop_centre::read_reply(telegram)? else {
         return Ok(None);
     };
